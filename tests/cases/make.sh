@@ -1,6 +1,6 @@
 # krl make: each word of a text, each refusal by file and line, which CA counts, names of CAs, both
-# also after a merge by git, the version, and lists that are shown, made and shown again, beside what
-# OpenSSH's ssh-keygen says of them.
+# also after a merge by git, last days, the version, and lists that are shown, made and shown again,
+# beside what OpenSSH's ssh-keygen says of them.
 
 keygen=$program
 program=$krl
@@ -11,9 +11,9 @@ a=$(line ssh-ed25519 "$A")
 b=$(line ssh-ed25519 "$B")
 all='0000000000000000'
 
-# makes NAME TEXT SAID DIGITS..: the text makes a list of version 1 with these sections, and this is
-# said.
-makes() {
+# made_of NAME TEXT SAID WANTED COMMAND..: the text makes a list of version 1, this is said, and the
+# command prints what is wanted of the list.
+made_of() {
   printf "$2" >text
   rm -f made.krl
   run make -f made.krl text
@@ -21,8 +21,12 @@ makes() {
     differs 'exit status' 0 "$got_status"
     differs 'standard output' '' "$got_output"
     differs 'standard error' "krl make: made.krl: version 1: $3"$'\n' "$got_error"
-    differs 'the list' "$H$(printf %s "${@:4}")" "$(digits made.krl)"
+    differs 'the list' "$4" "$("${@:5}" made.krl)"
   )"
+}
+# makes NAME TEXT SAID DIGITS..: the list has these sections.
+makes() {
+  made_of "$1" "$2" "$3" "$H$(printf %s "${@:4}")" digits
 }
 five=0100000015${all}20000000080000000000000005
 makes 'a serial number' 'ca: all\nserial: 5\n' '1 CA, 1 serial number' $five
@@ -102,7 +106,7 @@ refuses() {
     differs 'the list' old "$(cat made.krl)"
   )"
 }
-no_ca='no ca: line counts here: none is before it, or a key or a hash is between '
+no_ca='no CA is given: by @NAME before the word, or by a ca: line with no key or hash between '
 no_ca+='[text 1 Spec, spec 4 NoAuthority]'
 # lacks_ca NAME LINE TEXT: a serial number or a key ID of the text lacks the line of its CA.
 lacks_ca() {
@@ -265,9 +269,9 @@ done
 # Texts without an entry, and texts that are not read. The list stays.
 printf '# nobody\nca: all\n' >none
 cp made.krl before.krl
-expect 'a text that names nobody' 255 '' \
-  $'krl: made.krl: no text has an entry, and the list would revoke nobody [make 1 Empty]\n' \
-  make -f made.krl -z 1 none
+empty='krl: made.krl: the list would revoke nobody: no text has an entry, or each is over '
+empty+=$'[make 1 Empty]\n'
+expect 'a text that names nobody' 255 '' "$empty" make -f made.krl -z 1 none
 # The first fault in the order of the texts is reported, and that of the list last.
 printf 'ca: all\nserial: 0\nid-hex: 6\n' >wrong
 printf 'serial: 5\n' >earlier
@@ -279,9 +283,7 @@ for words in 'made.krl wrong earlier' 'made.krl wrong missing' 'none.krl wrong';
 done
 expect 'a text that is missing before a wrong one' 255 '' \
   $'krl: missing: No such file or directory [file 1 Open]\n' make -f none.krl missing wrong
-expect 'no text' 255 '' \
-  $'krl: made.krl: no text has an entry, and the list would revoke nobody [make 1 Empty]\n' \
-  make -f made.krl -z 1
+expect 'no text' 255 '' "$empty" make -f made.krl -z 1
 expect 'a text that is missing' 255 '' \
   $'krl: missing: No such file or directory [file 1 Open]\n' make -f made.krl -z 1 none missing
 judge 'the list after texts that are refused' "$(asks 0 cmp before.krl made.krl)"
@@ -627,9 +629,16 @@ other_key 'a name with another key' 3 1 "@users: $a\n# c\n@users: $b\n"
 other_key 'a name with another key behind the same one again' 5 2 \
   "\n@users: $a\n@users: $a c\n@users serial: 5\n@users: $b\n"
 no_key='text 1 Spec, spec 6 Key, line 1 NoKey'
-for given in '' all ALL everyone "$f" @users 'two words.pub' "no-pty $a" "cert-authority $a" \
-  "restrict,command=\"a: b\" $a" "* $a" "@cert-authority * $a" "ca: $a" ": $a" 'serial: 5'; do
+for given in '' ALL everyone @users 'two words.pub' "no-pty $a" "cert-authority $a" \
+  "restrict,command=\"a: b\" $a" "* $a" "@cert-authority * $a" ": $a" 'all CAs' 'serial' 'serial 5' \
+  'serial : 5' 'seral: 5' 'users: 5'; do
   refuses "'${given:0:30}' behind the name of a CA" 2 'no key type stands there' "$no_key" \
+    "@users: $a\n@users: $given\n"
+done
+for given in all 'all # c' 'serial: 5' 'SeRiAl:5' 'serial: x' 'id: bob' 'id-hex: 61' "ca: $a" \
+  'ca: all' 'ca-blob: eA==' "key: $g" "sha1: $g" "hash: $f" 'id:' "$f"; do
+  refuses "an entry behind @NAME and a colon: '${given:0:30}'" 2 \
+    'behind @NAME and a colon comes a key: an entry has no colon there' "$no_key" \
     "@users: $a\n@users: $given\n"
 done
 for given in ca.pub /etc/ssh/ca.pub '~/ca' ./ca ../ca; do
@@ -720,10 +729,15 @@ meant_behind 'an equals sign instead of the colon behind a name' serial serial '
 meant_behind 'another byte in a word behind a name' id_hex id-hex '@users id_hex: 61'
 meant_behind 'a word with a byte that a terminal obeys, behind a name' 'id\x1b' id '@users id\033: a'
 meant_behind 'a misspelt word behind an unknown name' seral serial '@nobody seral: 1'
-# Entries that are wrong behind a name as without one.
+# Entries that are wrong behind a name as without one, and as long as they count as later.
 while IFS='|' read -r entry words fault <&3; do
   for name in users all; do
     refuses "$entry behind @$name" 2 "$words" "$fault" "@users: $a\n@$name $entry\n"
+  done
+  for day in 1969-12-31 1970-01-01 2099-12-31; do
+    refuses "$entry behind until $day" 2 "$words" "$fault" "ca: all\nuntil $day $entry\n"
+    refuses "$entry behind until $day and a name" 2 "$words" "$fault" \
+      "@users: $a\nUNTIL $day\t@users $entry\n"
   done
 done 3<<'ROWS'
 serial:|a serial number is a number below 2^64|text 1 Spec, spec 1 Number
@@ -797,9 +811,7 @@ judge 'the list after names and -n' "$(asks 0 cmp before.krl made.krl)"
 
 # A text that only gives names has no entry, as one with ca: lines alone.
 rm -f made.krl
-expect 'a text that only gives a name' 255 '' \
-  $'krl: made.krl: no text has an entry, and the list would revoke nobody [make 1 Empty]\n' \
-  make -f made.krl gives
+expect 'a text that only gives a name' 255 '' "$empty" make -f made.krl gives
 judge 'no list is made of it' "$([ ! -e made.krl ] || ls -l made.krl)"
 expect 'texts that only give names beside one with an entry' 0 '' \
   $'krl make: made.krl: version 1: 1 CA, 1 key ID\n' make -f made.krl gives gives-again gives
@@ -808,6 +820,320 @@ expect 'a text that only gives a name, which is allowed' 0 '' \
 expect 'an entry of all CAs through a pipe' 0 '' \
   $'krl make: made.krl: version 2: 1 CA, 1 serial number\n' \
   make -f made.krl - < <(echo '@all serial: 5')
+
+# Last days. The day of the lists is 2026-11-15.
+noon=1794744000
+export SOURCE_DATE_EPOCH=$noon
+# counts NAME TEXT SAID LINE..: the list is shown in these lines.
+counts() {
+  made_of "$1" "$2" "$3" "$(printf '%s\n' "${@:4}")" contents
+}
+over='1 key; 1 entry is over'
+by_id=$(line ssh-ed25519-cert-v01@openssh.com "$(certificate "$G" "$A" 0000000000000000 a)")
+# A line before the entry, the entry, how much it names, the line of its CA, and its own line.
+while IFS='|' read -r before entry amount ca named <&3; do
+  for day in 0000-01-01 1969-12-31 2025-12-31 2026-10-31 2026-11-14; do
+    counts "${entry:0:40} until $day" "$before\nuntil $day $entry\nkey: $g\n" "$over" "key: $g"
+  done
+  for day in 2026-11-15 2026-11-16 2026-12-01 2027-01-01 9999-12-31; do
+    counts "${entry:0:40} until $day" "$before\nuntil $day $entry\nkey: $g\n" \
+      "1 CA, $amount, 1 key" "$ca" "$named" "key: $g"
+  done
+done 3<<ROWS
+ca: all|serial: 5-7|3 serial numbers|ca: all|serial: 5-7
+ca: $a|id: bob # OPS-1|1 key ID|ca: $a|id: bob
+ca: $a of a|id-hex: 22|1 key ID|ca: $a|id: "
+@users: $a|@users serial: 0x10|1 serial number|ca: $a|serial: 16
+@users: $a|@users id: until|1 key ID|ca: $a|id: until
+# c|@all serial: 5|1 serial number|ca: all|serial: 5
+# c|@all id-hex: 6f|1 key ID|ca: all|id: o
+# c|$certificate|1 serial number|ca: $a|serial: 7
+ca: all|$by_id of bob|1 key ID|ca: $a|id: a
+ROWS
+makes 'an entry whose last day is not over' 'ca: all\nuntil 2026-11-15 serial: 5\n' \
+  '1 CA, 1 serial number' $five
+for it in 'UNTIL 2026-11-15 serial: 5' 'uNtIL 2026-11-15 @all SERIAL: 5' \
+  'until\t2026-11-15\tserial: 5' ' \t until \t 2026-11-15 \t @all\tserial:5 \t\r' \
+  '\runtil 2026-11-15 serial: 5' 'until 2026-11-15 serial: 5 # until 2001-02-03' \
+  'until 2026-11-15 @all serial: 5# until 2099-12-31\r'; do
+  for end in "\nkey: $g\n" ''; do
+    [ -n "$end" ] && before="ca: all\n" || before="key: $g\nca: all\n"
+    counts "today: $it${end:+, before a key}" "$before$it$end" '1 CA, 1 serial number, 1 key' \
+      'ca: all' 'serial: 5' "key: $g"
+    counts "the day before: $it${end:+, before a key}" "$before${it/2026-11-15/2026-11-14}$end" \
+      "$over" "key: $g"
+  done
+done
+
+# Each second of the last day is in it, in UTC, and no other one.
+for day in 1970-01-01 1970-12-31 1999-12-31 2000-02-28 2000-02-29 2000-03-01 2027-02-28 2028-02-28 \
+  2028-02-29 2028-12-31 2099-12-31 2100-02-28 2100-03-01 9999-12-31; do
+  first=$(date -u -d "$day" +%s)
+  for second in $first $((first + 86399)); do
+    SOURCE_DATE_EPOCH=$second counts "second $second of $day" "until $day @all id: a\nkey: $g\n" \
+      '1 CA, 1 key ID, 1 key' 'ca: all' 'id: a' "key: $g"
+  done
+  SOURCE_DATE_EPOCH=$((first + 86400)) counts "the second after $day" \
+    "until $day @all id: a\nkey: $g\n" "$over" "key: $g"
+done
+SOURCE_DATE_EPOCH=18446744073709551615 counts 'the last second that there is' \
+  "until 9999-12-31 @all id: a\nkey: $g\n" "$over" "key: $g"
+for zone in XXX-14 XXX+12; do
+  TZ=$zone counts "the time zone $zone" \
+    "until 2026-11-15 @all id: a\nuntil 2026-11-14 @all id: b\nuntil 2026-11-16 @all id: c\n" \
+    '1 CA, 2 key IDs; 1 entry is over' 'ca: all' 'id: a' 'id: c'
+done
+# Without a date of the environment the day is that of the clock. It may pass midnight meanwhile.
+for date in unset '' x -1; do
+  for _ in 1 2 3; do
+    export SOURCE_DATE_EPOCH=$date
+    [ "$date" != unset ] || unset SOURCE_DATE_EPOCH
+    today=$(date -u +%F)
+    for at in -1 0 1; do
+      printf 'until %s @all serial: %d\n' "$(date -u -d "$today $at day" +%F)" $((at + 6))
+    done >text
+    run make -f made.krl --replace text
+    [ "$today" != "$(date -u +%F)" ] || break
+  done
+  judge "yesterday, today and tomorrow, where SOURCE_DATE_EPOCH is '$date'" "$(
+    differs 'standard error' \
+      $'krl make: made.krl: version 1: 1 CA, 2 serial numbers; 1 entry is over\n' "$got_error"
+    differs names $'ca: all\nserial: 6-7' "$(contents made.krl)"
+  )"
+done
+export SOURCE_DATE_EPOCH=$noon
+
+# Days of the calendar, and others.
+days() {
+  for it in "${@:2}"; do echo "until $it @all id: $it"; done >text
+  echo '@all id: a' >>text
+  run make -f made.krl --replace text
+  judge "$1" "$(
+    differs 'standard error' "krl make: made.krl: version 1: 1 CA, $said"$'\n' "$got_error"
+  )"
+}
+said='1 key ID; 18 entries are over' days 'days of the calendar that are over' 0000-01-01 0000-02-29 \
+  0000-12-31 0001-01-01 0004-02-29 0400-02-29 1600-02-29 1970-01-01 2000-02-29 2026-01-31 2026-03-31 \
+  2026-04-30 2026-05-31 2026-06-30 2026-07-31 2026-08-31 2026-09-30 2026-10-31
+said='8 key IDs' days 'days of the calendar that are not over' 2026-11-30 2026-12-31 2027-02-28 \
+  2028-02-29 2400-02-29 9996-02-29 9999-12-31
+bad_date() {
+  refuses "$1" 2 'until needs a day, as YYYY-MM-DD' 'text 18 BadDate' "@users: $a\n$2\n"
+}
+for day in 2026-02-29 2027-02-29 1900-02-29 2100-02-29 0100-02-29 2026-02-30 2028-02-30 2026-00-15 \
+  2026-13-15 2026-99-15 2026-11-00 2026-11-31 2026-01-32 2026-03-32 2026-04-31 2026-05-32 2026-06-31 \
+  2026-07-32 2026-08-32 2026-09-31 2026-10-32 2026-12-32 2026-11-99 0000-00-00 1969-02-29 9999-12-32 \
+  2026-11-5 2026-1-15 26-11-15 02026-11-15 12026-11-15 10000-01-01 -026-11-15 +026-11-15 2026/11/15 \
+  2026.11.15 2026:11:15 2026_11_15 20261115 15-11-2026 15.11.2026 11/15/2026 2026-11 2026 \
+  2026-11-15T00:00 2026-11-15Z 2026-11-155 2026-11-15x 2026-11-15: 2026-11-15, 2026-11-15. \
+  2026-11-15- 2026-11-15= '"2026-11-15"' 2026-1l-15 2O26-11-15 202/-11-15 202:-11-15 2026-/1-15 \
+  2026-:1-15 2026-11-1/ 2026-11-1: 2026--1-15 2026-11--5 2026-+1-15 '2026 -11-15' '2026- 11-15' \
+  '2026-11 -15' '2026-11- 5' '2026- 1-15' '\r2026-11-15' '2026-11-15\r' '2026-11-15\000' \
+  '2026-11-15\302\240' '2026\342\200\22311\342\200\22315' 'until 2026-11-15' tomorrow never x : = ''; do
+  bad_date "until '$day' behind a name" "until $day @users serial: 5"
+done
+for it in 'until serial: 5' 'UNTIL ca: all' "until $g" "until $certificate" 'until\tx' \
+  'until 2026-11-15serial: 5' 'until 2026-11-15@users serial: 5' 'until : 2026-11-15 serial: 5' \
+  'until = 2026-11-15 serial: 5' 'until x # until 2026-11-15' 'until 2026-11-15=serial: 5'; do
+  bad_date "no day: '${it:0:40}'" "$it"
+done
+
+# What has a last day, and what has none, on each day.
+for day in 1969-12-31 2026-11-15 2099-12-31; do
+  for it in '' '\t\r' '# c' '# until 2026-11-15' 'ca: all' "CA: $b" 'ca: everyone' 'ca:' \
+    'ca-blob: eA==' 'ca-blob: x' "@users: $a" "@users: $b" "@hosts: $b" '@hosts:' '@hosts: everyone' \
+    "@all: $b" "@a/b: $b" '@users: serial: 5' "key: $g" "KEY:$g" "key: $certificate" 'key: alice.pub' \
+    'key:' "key: no-pty $g" 'key-blob: AQ==' 'key-blob: x' "sha1: $g" "sha256: $g" "hash: $f" \
+    "$sha1" 'hash: x' "$g" "$g of alice" "key: $g # until 2026-11-15" 'ssh-ed25519' 'ssh-rsa AAAA'; do
+    refuses "'${it:0:40}' behind until $day" 2 \
+      'only a serial number, a key ID or a certificate has a last day' 'text 19 NoLastDay' \
+      "@users: $a\nuntil $day $it\n"
+  done
+  lacks_ca "a serial number behind until $day without a CA" 2 "# c\nuntil $day serial: 5\nca: all\n"
+  lacks_ca "a key ID behind until $day and a key" 3 "ca: all\nkey: $g\nuntil $day id: a\n"
+  lacks_ca "a serial number behind a certificate until $day" 3 \
+    "ca: all\nuntil $day $certificate\nserial: 5\n"
+  lacks_ca "a last day behind a certificate until $day" 4 \
+    "ca: all\nserial: 6\nuntil $day $by_id\nuntil $day id: b\n"
+  lacks_ca "a serial number behind a name and until $day" 3 \
+    "@users: $a\nuntil $day @users serial: 5\nserial: 5\n"
+  no_name "an unknown name behind until $day" 2 nobody '' "@users: $a\nuntil $day @nobody serial: 5\n"
+  no_name "a misspelt name behind until $day" 2 user ': did you mean "users" (text, line 1)?' \
+    "@users: $a\nuntil $day @user id: bob\n"
+  no_such "no name behind until $day" "until $day @ serial: 5\n"
+  meant "a misspelt word behind until $day" serials serial "until $day serials: 5"
+  meant "a word without its colon behind until $day" id id "until $day\tid bob"
+  meant "a CA without its colon behind until $day" ca ca "until $day ca $a"
+  unknown "another word behind until $day" "until $day users: 5"
+  unknown "no word behind until $day" "until $day : 5"
+  unknown "options and a certificate behind until $day" "until $day no-pty $certificate"
+  unknown "a name of a type behind until $day" "until $day ssh-ed25519-cert AAAA"
+  behind "nothing behind until $day and a name" "until $day @users"
+  behind "a key behind until $day and a name" "until $day @users key: $g"
+  behind "a certificate behind until $day and a name" "until $day @users $certificate"
+  behind "a blank before the colon behind until $day and a name" "until $day @users : $a"
+  meant_behind "a misspelt word behind until $day and a name" seral serial "until $day @users seral: 1"
+  refuses "a certificate that is a key, until $day" 2 'the key is of another type' \
+    'text 1 Spec, spec 6 Key, line 3 WordDiffers' \
+    "# c\nuntil $day ssh-ed25519-cert-v01@openssh.com ${g#* }\n"
+  refuses "the type of a certificate, until $day" 2 'no key type stands there' "$no_key" \
+    "# c\nuntil $day ssh-ed25519-cert-v01@openssh.com\n"
+  refuses "a certificate of a zero byte until $day" 2 \
+    'OpenSSH takes no key ID with a zero byte: use serial:' 'text 9 ZeroInId' \
+    "# c\nuntil $day $(line ssh-ed25519-cert-v01@openssh.com "${zero/0000015a/00000100}")\n"
+done
+counts 'the CA that is current stays so behind lines that are over' \
+  "@users: $a\nca: all\nuntil 2026-11-14 serial: 5\nid: a\nuntil 2026-11-14 @users id: c\nid: b\n" \
+  '1 CA, 2 key IDs; 2 entries are over' 'ca: all' 'id: a' 'id: b'
+counts 'what is over on one line and not on another' "until 2026-11-14 @all serial: 1-9\n\
+@all serial: 5\nuntil 2026-11-14 @all serial: 5\nuntil 2026-11-16 @all id: a\n\
+until 2026-11-14 @all id: a\n" '1 CA, 1 serial number, 1 key ID; 3 entries are over' \
+  'ca: all' 'serial: 5' 'id: a'
+counts 'the same name with two last days' "until 2026-11-14 @all id: a\nuntil 2026-11-15 @all id: a\n" \
+  '1 CA, 1 key ID; 1 entry is over' 'ca: all' 'id: a'
+
+# A last day that is not first on its line, or misspelt.
+first_on_line='a last day comes first on a line: until YYYY-MM-DD'
+for it in until 'until:' 'UNTIL # c' 'until\r' 'until=' 'until: 2026-11-15 serial: 5' \
+  'until=2026-11-15 serial: 5' 'Until:2026-11-15 @users serial: 5' untill 'untill 2026-11-15 serial: 5' \
+  'unti 2026-11-15 serial: 5' 'ntil 2026-11-15 serial: 5' 'unitl 2026-11-15 serial: 5' \
+  'nutil: 2026-11-15 id: a' 'UNTIK 2026-11-15 id: a' "unntil 2026-11-15 $certificate" 'until: x' \
+  'until. 2026-11-15 serial: 5' 'until 2026-11-15 until 2026-11-15 serial: 5' \
+  'until 1969-12-31 until: 1969-12-31 serial: 5' 'until 2026-11-15 untill'; do
+  refuses "'${it:0:40}'" 2 "$first_on_line" 'text 7 UnknownWord' "ca: all\n$it\n"
+done
+for it in 'until 2026-11-15 serial: 5' 'untill 2026-11-15 serial: 5' '\tuntil: 2026-11-15 serial: 5' \
+  'UNTIL=2026-11-15 id: a' until 'unil # c' 'utnil 2026-11-15'; do
+  for name in users all nobody; do
+    refuses "'$it' behind @$name" 2 "$first_on_line" 'text 17 MarkedWord' "@users: $a\n@$name $it\n"
+  done
+  refuses "'$it' behind a last day and a name" 2 "$first_on_line" 'text 17 MarkedWord' \
+    "@users: $a\nuntil 2026-11-15 @users $it\n"
+done
+for it in 'untiill: 5' 'nutli 2026-11-15 serial: 5' 'until2026-11-15 serial: 5' \
+  'until-2026-11-15 serial: 5' 'till 2026-11-15 serial: 5' '2026-11-15 serial: 5' \
+  'from 2026-11-15 serial: 5' 'until\r2026-11-15 serial: 5' '"until" 2026-11-15 serial: 5'; do
+  unknown "'$it'" "$it"
+done
+
+# A day in the comment of an entry.
+in_comment() {
+  refuses "$1" "${3:-2}" 'a day in a comment ends nothing: begin the line with until YYYY-MM-DD' \
+    'text 20 DateInComment' "$2"
+}
+for it in 'serial: 5' 'id: a' 'id-hex: 61' '@users serial: 5' '@all id: a' '@users id-hex: 61' \
+  "$certificate" "$by_id of bob" "key: $g" "key: $certificate" 'key-blob: AQ==' "sha1: $g" \
+  "SHA256: $g" "hash: $f" "$sha1" "$g" "$g of alice" 'SERIAL:5-7'; do
+  in_comment "a day in the comment of ${it:0:40}" "@users: $a\nca: all\n$it # until 2027-01-01\n" 3
+done
+for it in '#until 2026-11-15' '# UNTIL: 2026-11-15' '# uNtil=2026-11-15' '# until2026-11-15' \
+  '#\tuntil \t:= :2026-11-15' '# OPS-1210 until 2026-11-15' '# until 2026-11-15, or so' \
+  '# a # b # until 1999-12-31' '# until 9999-12-31\r' '# until 0000-02-29' '# until 2028-02-29' \
+  '# until tomorrow, until 2026-11-15' '# until 2026-02-29 until 2026-03-01' \
+  '# untiluntil 2026-11-15' '# until until 2026-11-15' '# valid-until:2026-11-15T12:00' \
+  '# since 2001-01-01 until 2026-11-155' '# zo\353 until 2026-11-15' '#\000until 2026-11-15'; do
+  in_comment "the comment '$it'" "ca: all\nserial: 5 $it\n"
+done
+# It comes before other faults of the line.
+for it in 'serial: 0' 'serial: 010' 'serial: x' 'serial: 1f3' 'serial: 2-1' 'id:' 'id: "a"' 'id: a, b' \
+  'id: a\tb' 'id-hex: 6' 'id-hex: 00' '@users serial: 0' '@nobody serial: 5' '@ id: a' 'key: alice.pub' \
+  "key: no-pty $g" 'key:' 'key-blob: x' 'hash: x' 'ssh-ed25519' "ssh-rsa ${g#* }" \
+  'ssh-ed25519-cert-v01@openssh.com'; do
+  in_comment "a day in the comment behind ${it:0:40}" "@users: $a\n$it # until 2026-11-15\n"
+done
+in_comment 'a day in the comment of a serial number without a CA' 'serial: 5 # until 2026-11-15\n' 1
+in_comment 'a day in a comment that cuts a key ID short' 'ca: all\nid: eve#until 2026-11-15\n'
+in_comment 'a day in a comment on a first line' "$g # until 2026-11-15" 1
+# Comments that say nothing of the kind, and those of other lines.
+for it in '# until' '# until tomorrow' '# until 2026-02-29' '# until 2026-11-31' '# until 2026-1-15' \
+  '# until 15.11.2026' '# until the 2026-11-15' '# until. 2026-11-15' '# until-2026-11-15' \
+  '# until # 2026-11-15' '# until\r2026-11-15' '# till 2026-11-15' '# 2026-11-15 until' \
+  '# unti 2026-11-15' '# expires 2026-11-15' '# until 2026-11-1' '# until 20261115'; do
+  names "the comment '$it'" "ca: all\nserial: 5 $it\n" 'ca: all' 'serial: 5'
+done
+names 'days in comments of lines that name no entry' "# until 2026-11-14\n\t#until: 2026-11-14\n\
+@users: $a # until 2026-11-14\n@users: $a until 2026-11-14 # until 2026-11-14\n\
+ca-blob: eA== # until 2026-11-14\nca: $a of a # until 2026-11-14\nca: all # until 2026-11-14\n\
+serial: 5\n# until 2026-11-14" 'ca: all' 'serial: 5'
+names 'a day in the comment of a key that no # begins' "$g of alice until 2026-11-14\n" "key: $g"
+printf 'serial: 5 # until 2001-02-03\n' >spec
+judge 'a specification file may have such a comment' "$(asks 0 "$keygen" -k -f spec.krl -s none spec)"
+has_until='until 2026-11-15 serial: 5'
+judge 'a specification file has no last day' "$(
+  "$keygen" -k -f spec.krl -s none - <<<"$has_until" >"$scratch/output" 2>&1
+  differs 'exit status' 255 $?
+)"
+
+# What krl make says of lines that are over, and what it does with the old list.
+printf 'until 2026-11-14 @all serial: 5\n@all id: a\n' >ending
+printf 'until 2026-11-14 @all serial: 5\n' >over
+printf 'until 2026-11-13 @all serial: 5-9\nuntil 2026-11-14 @all id: b\nkey: %s\n' "$g" >more-over
+SOURCE_DATE_EPOCH=$((noon - 86400)) expect 'a list on the last day of an entry' 0 '' \
+  $'krl make: made.krl: version 1: 1 CA, 1 serial number, 1 key ID\n' \
+  make --replace -f made.krl ending
+cp made.krl before.krl
+lost='1 serial number is no longer revoked; 1 entry is over'
+expect 'what the next day would change' 0 $'  ca: all\n- serial: 5\n' \
+  "krl make: made.krl: version 2: 1 CA, 1 key ID; $lost"$'\n' make -n -f made.krl ending
+expect 'the same without the line about the list' 0 $'  ca: all\n- serial: 5\n' '' \
+  make -nq -f made.krl ending
+expect 'with -n and --replace all that is not over is new' 0 $'  ca: all\n+ id: a\n' \
+  $'krl make: made.krl: version 1: 1 CA, 1 key ID; 1 entry is over\n' \
+  make -n --replace -f made.krl ending
+kept='1 CA, 1 serial number, 1 key ID; 1 entry is over'
+expect 'what an update would change on the next day' 0 '' \
+  "krl make: made.krl: version 2: $kept"$'\n' make -nu -f made.krl ending
+judge 'the list after -n, with an entry that is over' "$(asks 0 cmp before.krl made.krl)"
+expect 'an update on the next day' 0 '' "krl make: made.krl: version 2: $kept"$'\n' \
+  make -u -f made.krl ending
+judge 'an update keeps what is over' \
+  "$(differs names $'ca: all\nserial: 5\nid: a' "$(contents made.krl)")"
+expect 'an update by a text that is over' 0 '' "krl make: made.krl: version 3: $kept"$'\n' \
+  make -u -f made.krl over
+expect 'the same through standard input' 0 '' "krl make: made.krl: version 4: $kept"$'\n' \
+  make -u -f made.krl - <over
+expect 'a list on the next day' 0 '' \
+  "krl make: made.krl: version 5: 1 CA, 1 key ID; $lost"$'\n' make -f made.krl ending
+judge 'it names what is not over' "$(differs names $'ca: all\nid: a' "$(contents made.krl)")"
+expect 'once more' 0 '' $'krl make: made.krl: version 6: 1 CA, 1 key ID; 1 entry is over\n' \
+  make -f made.krl ending
+expect 'nothing is said of it with -q, too' 0 '' '' make -q -f made.krl ending
+expect 'one that replaces it unread' 0 '' \
+  $'krl make: made.krl: version 1: 1 CA, 1 key ID; 1 entry is over\n' \
+  make --replace -f made.krl ending
+expect 'entries that are over in several texts' 0 '' \
+  $'krl make: made.krl: version 2: 1 CA, 1 key ID, 1 key; 5 entries are over\n' \
+  make -f made.krl more-over over ending - <over
+expect 'texts through standard input that are over beside others' 0 '' \
+  $'krl make: made.krl: version 3: 1 CA, 1 key ID; 1 key is no longer revoked; 2 entries are over\n' \
+  make -f made.krl - ending <over
+# Nothing but what is over. The list stays.
+cp made.krl before.krl
+for words in over '-n over' '-z 99 over' '-' '-n -' 'over none' 'none - over' 'over over'; do
+  # shellcheck disable=SC2086
+  expect "all is over in: $words" 255 '' "$empty" make -f made.krl $words <over
+done
+expect 'all is over through a pipe' 255 '' "$empty" make -f made.krl - < <(cat over)
+expect 'a text without an entry beside one that is over' 255 '' "krl: nothing: $no_entry"$'\n' \
+  make -f made.krl over nothing
+printf 'until 2026-11-14 @all serial: 5\nuntil 2026-11-14 @all id-hex: 0\n' >wrong
+expect 'a wrong line behind what is over' 255 '' \
+  $'krl: wrong: line 2: no pairs of hexadecimal digits [text 5 Hex]\n' make -f made.krl over wrong
+judge 'the list after texts that are over' "$(asks 0 cmp before.krl made.krl)"
+expect 'what a list that may be empty would change' 0 $'  ca: all\n- id: a\n' \
+  $'krl make: made.krl: version 4: nothing; 1 key ID is no longer revoked; 1 entry is over\n' \
+  make -n --allow-empty -f made.krl over
+expect 'all is over, and the list may be empty' 0 '' \
+  $'krl make: made.krl: version 4: nothing; 1 key ID is no longer revoked; 1 entry is over\n' \
+  make --allow-empty -f made.krl over
+expect 'the same once more' 0 '' $'krl make: made.krl: version 5: nothing; 2 entries are over\n' \
+  make --allow-empty -f made.krl over over
+expect 'an update of an empty list by what is over' 0 '' \
+  $'krl make: made.krl: version 6: nothing; 1 entry is over\n' make -u -f made.krl over
+rm made.krl
+expect 'all is over, and there is no list' 255 '' "$empty" make -f made.krl over
+judge 'no list is made of what is over' "$([ ! -e made.krl ] || ls -l made.krl)"
+export SOURCE_DATE_EPOCH=0
 
 # Texts to which two branches append, merged by git line by line: the list of the merged text names
 # what both texts name, or there is none.
@@ -852,6 +1178,9 @@ merges 'both name the same CA' 0 "key: $g\n" "@users: $a\n@users serial: 6\n@use
   "@users: $a of users\n@users serial: 7\n@users id: a\n"
 merges 'one adds entries of a ca: line, and the other by a name' 0 \
   "@users: $a\nca: all\nserial: 5\n" "ca: $b\nid: b\n" '@users serial: 6\n'
+merges 'both add last days, of which some are over' 0 "@users: $a\nca: all\nserial: 5\n" \
+  'until 1969-12-31 @users serial: 6\nuntil 2001-02-03 @users id: a\nuntil 1969-12-31 @all id: b\n' \
+  'until 2001-02-03 @users serial: 6\nuntil 1969-12-31 @users id: a\n'
 
 # Wrong words.
 for words in '' '-f made.krl -z x text' '-f made.krl -z -1 text' '-f a -f b text' '-k -f made.krl' \

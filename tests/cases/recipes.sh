@@ -132,45 +132,102 @@ user="ca: $(cut -d ' ' -f 1,2 user-ca.pub)" host="ca: $(cut -d ' ' -f 1,2 host-c
 has() {
   judge "$1" "$(differs lines "$(printf '%s\n' "${@:3}" | sort)" "$(contents "$2" | sort)")"
 }
-lines_under user-ca.pub 'serial: 5 # until 2001-02-03
-serial: 6 # until 2999-01-01
-serial: 7
-serial: 8 # until tomorrow
+{
+  sed 's/^/@user-ca: /' user-ca.pub && sed 's/^/@host: /; s/$/ # until 2001-02-03/' host-ca.pub
+  printf 'until %s @user-ca serial: %d\n' 2001-02-03 5 2999-01-01 6 && cat <<'END_OF_FILE'
+@user-ca serial: 7
+until 2999-12-31 @user-ca serial: 8-9   # OPS-1210
 # until 2001-02-03
-serial: 9 # until '"$(date +%F)"', and lost' host-ca.pub 'id: host' >revoked.txt
-sed 's/^/@host: /; s/$/ # until 2001-02-03/' host-ca.pub >>revoked.txt
-printf '@host serial: 13 # until 2001-02-03\n@host\t id: over # until 2001-02-03\n' >>revoked.txt
-follows 'entries that expire' 'awk -v today' 0 '*'
+@host id: host
+until 2001-02-03 @host serial: 13
+until 2001-02-03 @host id: over
+END_OF_FILE
+} >revoked.txt
+"$krl" make -q --replace -f revoked.krl -z 20 revoked.txt
 has 'what is over is left out' revoked.krl "$user" 'serial: 6-9' "$host" 'id: host'
 cp revoked.krl kept.krl
-# The owner of a key chooses its comment.
+rm "$room/systemctl"
+follows 'the timer that makes the list is installed' 'install -m 644 krl-make' 0 ''
+judge 'systemd is told of this timer' "$(
+  differs 'the commands' $'daemon-reload\nenable --now krl-make.timer' "$(cat "$room/systemctl")"
+)"
+if command -v systemd-analyze >/dev/null; then
+  judge 'systemd finds nothing in its units' \
+    "$(asks 0 systemd-analyze verify "$room"/units/krl-make.*)"
+fi
+# The command of the service, and that of the line for cron, each as it is started, in this folder.
+service=$(sed -n 's/^ExecStart=//p' "$room/units/krl-make.service" | sed 's/%%/%/g; s/[$][$]/$/g')
+daily=$(sed -n 's/^5 0 \* \* \* krl //p' "$top/docs/RECIPES.md" | sed 's/\\%/%/g')
+# makes_daily COMMAND: runs it, in a second that no version has yet.
+makes_daily() {
+  local now
+  now=$(date +%s)
+  until [ "$(date +%s)" -gt "$now" ]; do sleep 0.05; done
+  env -i PATH="$PWD/tools:$PATH" sh -c "${1//\/srv\/krl/$PWD}" 2>&1
+}
+for command in "$service" "$daily"; do
+  cp revoked.txt whole.txt
+  "$krl" make -q --replace -f revoked.krl -z 20 - <<<$'@all serial: 1\n@all id: old'
+  judge "the list is made each day: ${command:0:20}" "$(
+    [[ $command == *'krl make '* ]] || echo '  there is no such command'
+    got=$(makes_daily "$command")
+    differs status 0 $?
+    if [ "$command" = "$daily" ]; then
+      differs 'what it prints' '' "$got"
+    else
+      grep -q '; 1 serial number, 1 key ID are no longer revoked; 3 entries are over$' <<<"$got" ||
+        echo "  $got"
+    fi
+    version=$("$krl" check --print-version revoked.krl)
+    [ "$version" -le "$(date +%s)" ] && [ "$version" -gt 1000000000 ] || echo "  version $version"
+  )"
+  has 'the list of this day has what is not over' revoked.krl \
+    "$user" 'serial: 6-9' "$host" 'id: host'
+  cp revoked.krl in-force
+  # A wrong line, a day that the calendar does not have, and the owner of a key who has chosen its
+  # comment.
+  while IFS= read -r line <&3; do
+    { cat whole.txt && echo "$line"; } >revoked.txt
+    judge "the list of each day is refused: ${line:0:30}, ${command:0:20}" "$(
+      got=$(makes_daily "$command")
+      differs status 255 $?
+      grep -qx "krl: revoked.txt: line $(wc -l <revoked.txt): .* \\[text .*\\]" <<<"$got" ||
+        echo "  $got"
+      cmp in-force revoked.krl 2>&1
+    )"
+  done 3<<END_OF_FILE
+@user-ca serial: 0
+until 2999-02-29 @user-ca serial: 5
+until 2001-02-03 @user-ca serial: 0
+until 2999-01-01 key: $(cat alice.pub)
+@user-ca serial: 5 # until 2001-02-03
+$(cat alice.pub) # until 2001-02-03
+END_OF_FILE
+  cp whole.txt revoked.txt
+  judge "the list of each day where the disk is full: ${command:0:20}" "$(
+    lines_under user-ca.pub "$(seq -f 'id: user-%.0f\n' 200 | tr -d '\n')" >>revoked.txt
+    (trap '' XFSZ && ulimit -f 1 && makes_daily "$command" >/dev/null && echo '  it ends well')
+    cmp in-force revoked.krl 2>&1
+  )"
+  cp whole.txt revoked.txt
+done
+# An update takes nothing out, and a list that lost an entry does not pass for one with all of them.
+"$krl" make -q --replace -f revoked.krl -z 20 - <<<"$(printf '%s\n' "$user" 'serial: 5')"
+cp revoked.krl in-force
+judge 'an update keeps an entry whose last day is over' "$(
+  said='krl make: revoked.krl: version 21: 2 CAs, 5 serial numbers, 1 key ID; 3 entries are over'
+  differs 'what it says' "$said" "$("$krl" make -u -f revoked.krl revoked.txt 2>&1)"
+)"
+has 'the list has both' revoked.krl "$user" 'serial: 5-9' "$host" 'id: host'
+"$krl" make -q -f revoked.krl revoked.txt
+judge 'a list that lost it is refused beside one that has it' "$(
+  got=$("$krl" check revoked.krl --superset-of in-force)
+  differs status 1 $?
+  differs said "- serial: 5" "$(grep '^-' <<<"$got")"
+)"
+# The owner of a key chooses its comment, which the recipes leave out.
 cp alice.pub of-alice.pub
 sed -i 's/ alice$/ alice # until 2001-02-03/' of-alice.pub
-for name in a b c d; do "$openssh" -q -t ed25519 -N '' -C "$name # until 2001-02-03" -f $name; done
-lines_under user-ca.pub 'id: over # until 2001-02-03
-id-hex: 6f # until 2001-02-03
- serial: 10 # until 2001-02-03
-Serial: 11 # until 2001-02-03
-serial: 12 # since 2001-01-01 # until 2001-02-03' >revoked.txt
-{ sed 's/^/key: /' a.pub && sed 's/^/sha1: /' b.pub && sed 's/^/SHA256: /' c.pub && cat d.pub; } \
-  >>revoked.txt
-sed 's/ [^ ]*$/ me # until 2001-02-03/' user-5.pub >>revoked.txt
-follows 'entries that expire beside keys whose owners write such comments' 'awk -v today' 0 '*' again
-expect 'their keys are revoked' 1 "$(for name in a b c d; do
-  echo "$name.pub ($name # until 2001-02-03): REVOKED"
-done; echo 'user-5.pub (alice): REVOKED')"$'\n' '' -Q -f revoked.krl {a,b,c,d}.pub user-5.pub
-has 'only what begins with its word expires' revoked.krl "$user" 'serial: 5' 'serial: 10-12' \
-  "$(contents revoked.krl | grep -E '^(key|hash)')"
-cp revoked.krl in-force
-lines_under user-ca.pub 'serial: 5 # until 2001-02-03\nid: eve# until 2001-02-03' >revoked.txt
-judge 'a wrong line is reported by its number in the text' "$(
-  is_refused 'awk -v today'
-  try_recipe 'awk -v today' | grep -q ': line 3: ' || try_recipe 'awk -v today'
-)"
-stays 'the list stays after a wrong line' revoked.krl
-lines_under user-ca.pub "$(seq -f 'serial: %.0f\n' 2 2 400 | tr -d '\n')" >revoked.txt
-on_full_disk 'entries that expire, where the disk is full' 'awk -v today'
-stays 'the list stays where the disk is full' revoked.krl
 mv kept.krl revoked.krl
 
 # ---- what changed
@@ -429,7 +486,6 @@ overtakes() {
     cmp in-force "$3" 2>&1
   )"
 }
-overtakes 'entries that expire' 'awk -v today' revoked.krl awk "$(command -v awk)"
 overtakes 'lists are merged' "$merge" both.krl krl "$krl"
 ln -s "$krl" tools/krl
 overtakes 'the lines of a command' "$leave" revoked.krl leavers 'cat leavers.txt'
@@ -453,7 +509,7 @@ judge 'a serial number that somebody appends then is refused' "$(
   cp revoked.krl in-force
   got=$("$krl" make -f revoked.krl appended 2>&1)
   differs status 255 $?
-  grep -q "^krl: appended: line $(wc -l <appended): no ca: line counts here: " <<<"$got" ||
+  grep -q "^krl: appended: line $(wc -l <appended): no CA is given: " <<<"$got" ||
     echo "  $got"
   cmp in-force revoked.krl 2>&1
 )"

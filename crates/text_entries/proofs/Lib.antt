@@ -3,3 +3,4 @@ pub mod Said
 pub mod KeyLines
 pub mod NamedKeys
 pub mod OneOff
+pub mod LastDays

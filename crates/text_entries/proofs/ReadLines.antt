@@ -7,7 +7,6 @@ use Rattle.run_faults.specs.declared.spec_cause.SpecCause.TheVariants as specs
 use Rattle.krl_types.specs.Entry.{Entry}
 use Rattle.krl_entries.specs.Changes.{MeansMore}
 use Rattle.krl_entries.specs.Revocations.{Revocations, held}
-use Rattle.text_entries.specs.AuthorityNames.{NamedKeys}
 use Rattle.text_entries.specs.Lines.{LineEntries, before_later, beginning, fault_at, lines_from, lines_with, with_entry}
 use Rattle.text_entries.specs.Reading.{IsAdded, IsDone, LacksMemory, LacksMemoryAt, ReadsText, ReportsLine, StopsAt, TakesLine}
 use Rattle.text_entries.specs.Says.{Saying, entry_said, line_says, standing_after}
@@ -53,17 +52,17 @@ named_parts standing number (line ∷ front) back none =
     (λ after later. named_parts after (number + 1) front back later ∙ ap (λ (n : ℕ). with_entries (lines_from after (number + 1) front).entries (lines_from (lines_from after (number + 1) front).standing n back)) same)
 
 -- The lines before were read: they have no fault, their entries were added, and what they decide stands.
-pub record IsAt (names : NamedKeys) (lines : List (List ℕ)) (passed : ℕ) (rest : List (List ℕ)) (standing : Standing) (old new : Revocations) : Type 0 where
+pub record IsAt (first : Standing) (lines : List (List ℕ)) (passed : ℕ) (rest : List (List ℕ)) (standing : Standing) (old new : Revocations) : Type 0 where
   pub before : List (List ℕ)
   pub parts : lines ≡ before ++ rest
   pub counted : length before ≡ passed
-  pub faultless : (lines_from (beginning names) 1 before).fault ≡ None
-  pub standing_is : (lines_from (beginning names) 1 before).standing ≡ standing
-  pub adds : MeansMore old new (lines_from (beginning names) 1 before).entries
-  pub few : held new ≤ held old + length (lines_from (beginning names) 1 before).entries
+  pub faultless : (lines_from (beginning first) 1 before).fault ≡ None
+  pub standing_is : (lines_from (beginning first) 1 before).standing ≡ standing
+  pub adds : MeansMore old new (lines_from (beginning first) 1 before).entries
+  pub few : held new ≤ held old + length (lines_from (beginning first) 1 before).entries
 
-pub none_read : (names : NamedKeys) (lines : List (List ℕ)) (r : Revocations) → IsAt names lines 0 lines (beginning names) r r
-none_read names lines r = record {
+pub none_read : (first : Standing) (lines : List (List ℕ)) (r : Revocations) → IsAt first lines 0 lines (beginning first) r r
+none_read first lines r = record {
   before = [];
   parts = refl;
   counted = refl;
@@ -81,13 +80,13 @@ record LineAdds (standing : Standing) (number : ℕ) (line : List ℕ) (after : 
   few : held new ≤ held old + length named
 
 -- the next line is read
-next_line : (names : NamedKeys) (lines : List (List ℕ)) (passed : ℕ) (line : List ℕ) (rest : List (List ℕ)) (standing after : Standing)
-    (old mid new : Revocations) → (at : IsAt names lines passed (line ∷ rest) standing old mid)
-    → LineAdds standing (1 + length at.before) line after mid new → IsAt names lines (passed + 1) rest after old new
-next_line names lines passed line rest standing after old mid new at now =
-    let e = (lines_from (beginning names) 1 at.before).entries in
-    let is : lines_from (beginning names) 1 (at.before ++ line ∷ []) ≡ record { entries = e ++ now.named; fault = None; standing = after } =
-    named_parts (beginning names) 1 at.before (line ∷ []) at.faultless
+next_line : (first : Standing) (lines : List (List ℕ)) (passed : ℕ) (line : List ℕ) (rest : List (List ℕ)) (standing after : Standing)
+    (old mid new : Revocations) → (at : IsAt first lines passed (line ∷ rest) standing old mid)
+    → LineAdds standing (1 + length at.before) line after mid new → IsAt first lines (passed + 1) rest after old new
+next_line first lines passed line rest standing after old mid new at now =
+    let e = (lines_from (beginning first) 1 at.before).entries in
+    let is : lines_from (beginning first) 1 (at.before ++ line ∷ []) ≡ record { entries = e ++ now.named; fault = None; standing = after } =
+    named_parts (beginning first) 1 at.before (line ∷ []) at.faultless
     ∙ ap (λ (c : Standing). with_entries e (lines_from c (1 + length at.before) (line ∷ []))) at.standing_is ∙ ap (with_entries e) now.is in
     record {
       before = at.before ++ line ∷ [];
@@ -121,49 +120,49 @@ done_adds : (standing after : Standing) (number : ℕ) (line : List ℕ) (mid ne
 done_adds standing after number line mid new saying says (same, adds) =
     entry_adds standing after number line mid new (entry_said saying) (rw (says, same) refl) adds
 
-pub line_read : (names : NamedKeys) (lines : List (List ℕ)) (passed : ℕ) (line : List ℕ) (rest : List (List ℕ)) (standing after : Standing) (old mid new : Revocations)
-    → IsAt names lines passed (line ∷ rest) standing old mid
-    → TakesLine {A = Unit {0}} (line_says standing line) (Ok tt) standing after mid new → IsAt names lines (passed + 1) rest after old new
-line_read names lines passed line rest standing after old mid new at (saying, says, is) =
-    next_line names lines passed line rest standing after old mid new at (done_adds standing after (1 + length at.before) line mid new saying says is)
+pub line_read : (first : Standing) (lines : List (List ℕ)) (passed : ℕ) (line : List ℕ) (rest : List (List ℕ)) (standing after : Standing) (old mid new : Revocations)
+    → IsAt first lines passed (line ∷ rest) standing old mid
+    → TakesLine {A = Unit {0}} (line_says standing line) (Ok tt) standing after mid new → IsAt first lines (passed + 1) rest after old new
+line_read first lines passed line rest standing after old mid new at (saying, says, is) =
+    next_line first lines passed line rest standing after old mid new at (done_adds standing after (1 + length at.before) line mid new saying says is)
 
 -- All lines were read.
-pub all_read : (names : NamedKeys) (text : List ℕ) (passed : ℕ) (standing : Standing) (old new : Revocations)
-    → IsAt names (slice_split is_newline text) passed [] standing old new
-    → ReadsText names text (Ok standing.names) old new × (held new ≤ held old + length (lines_with names text).entries)
+pub all_read : (first : Standing) (text : List ℕ) (passed : ℕ) (standing : Standing) (old new : Revocations)
+    → IsAt first (slice_split is_newline text) passed [] standing old new
+    → ReadsText {A = Unit {0}} text (Ok tt) first standing old new × (held new ≤ held old + length (lines_with first text).entries)
 unfolding lines_with
-all_read names text passed standing old new at =
+all_read first text passed standing old new at =
     let whole : slice_split is_newline text ≡ at.before = at.parts ∙ append-nil at.before in
-    rw whole ((at.faultless, ap (λ (s : Standing). s.names) (sym at.standing_is), at.adds), at.few)
+    rw whole ((at.faultless, sym at.standing_is, at.adds), at.few)
 
 -- There are at least as many entries as were added for the lines read so far.
-front_is_few : (names : NamedKeys) (lines : List (List ℕ)) (passed : ℕ) (rest : List (List ℕ)) (standing : Standing) (old new : Revocations)
-    → IsAt names lines passed rest standing old new → held new ≤ held old + length (lines_from (beginning names) 1 lines).entries
-front_is_few names lines passed rest standing old new at =
-    let e = (lines_from (beginning names) 1 at.before).entries in
-    let later = lines_from (lines_from (beginning names) 1 at.before).standing (1 + length at.before) rest in
-    let is : lines_from (beginning names) 1 lines ≡ with_entries e later =
-    ap (lines_from (beginning names) 1) at.parts ∙ named_parts (beginning names) 1 at.before rest at.faultless in
+front_is_few : (first : Standing) (lines : List (List ℕ)) (passed : ℕ) (rest : List (List ℕ)) (standing : Standing) (old new : Revocations)
+    → IsAt first lines passed rest standing old new → held new ≤ held old + length (lines_from (beginning first) 1 lines).entries
+front_is_few first lines passed rest standing old new at =
+    let e = (lines_from (beginning first) 1 at.before).entries in
+    let later = lines_from (lines_from (beginning first) 1 at.before).standing (1 + length at.before) rest in
+    let is : lines_from (beginning first) 1 lines ≡ with_entries e later =
+    ap (lines_from (beginning first) 1) at.parts ∙ named_parts (beginning first) 1 at.before rest at.faultless in
     rw is (omega (arith, at.few, length-append e later.entries))
 
 -- The fault of a line is the first one.
-reported : (names : NamedKeys) (text : List ℕ) (passed : ℕ) (line : List ℕ) (rest : List (List ℕ)) (standing : Standing) (old new : Revocations) (cause : TextCause)
-    → IsAt names (slice_split is_newline text) passed (line ∷ rest) standing old new → line_says standing line ≡ Err cause
-    → ((lines_with names text).fault ≡ Some (fault_at (passed + 1) cause)) × MeansMore old new (lines_with names text).entries
+reported : (first : Standing) (text : List ℕ) (passed : ℕ) (line : List ℕ) (rest : List (List ℕ)) (standing : Standing) (old new : Revocations) (cause : TextCause)
+    → IsAt first (slice_split is_newline text) passed (line ∷ rest) standing old new → line_says standing line ≡ Err cause
+    → ((lines_with first text).fault ≡ Some (fault_at (passed + 1) cause)) × MeansMore old new (lines_with first text).entries
 unfolding lines_with
-reported names text passed line rest standing old new cause at is =
-    let e = (lines_from (beginning names) 1 at.before).entries in
+reported first text passed line rest standing old new cause at is =
+    let e = (lines_from (beginning first) 1 at.before).entries in
     let number : 1 + length at.before ≡ passed + 1 = omega (arith, at.counted) in
     let stop : LineEntries = record { entries = []; fault = Some (fault_at (passed + 1) cause); standing = standing } in
     let here : lines_from standing (1 + length at.before) (line ∷ rest) ≡ stop = rw (is, number) refl in
-    let whole : lines_from (beginning names) 1 (slice_split is_newline text) ≡ with_entries e stop =
-    ap (lines_from (beginning names) 1) at.parts ∙ named_parts (beginning names) 1 at.before (line ∷ rest) at.faultless
+    let whole : lines_from (beginning first) 1 (slice_split is_newline text) ≡ with_entries e stop =
+    ap (lines_from (beginning first) 1) at.parts ∙ named_parts (beginning first) 1 at.before (line ∷ rest) at.faultless
     ∙ ap (λ (c : Standing). with_entries e (lines_from c (1 + length at.before) (line ∷ rest))) at.standing_is ∙ ap (with_entries e) here in
     (ap (λ (n : LineEntries). n.fault) whole, λ entries means. rw (whole, append-nil e) (at.adds entries means))
 
-lacking : (names : NamedKeys) (lines : List (List ℕ)) (passed : ℕ) (line : List ℕ) (rest : List (List ℕ)) (standing : Standing) (old new : Revocations)
-    → IsAt names lines passed (line ∷ rest) standing old new → LacksMemory (line_says standing line) → LacksMemoryAt names lines (passed + 1) old new
-lacking names lines passed line rest standing old new at lacks = record {
+lacking : (first : Standing) (lines : List (List ℕ)) (passed : ℕ) (line : List ℕ) (rest : List (List ℕ)) (standing : Standing) (old new : Revocations)
+    → IsAt first lines passed (line ∷ rest) standing old new → LacksMemory (line_says standing line) → LacksMemoryAt first lines (passed + 1) old new
+lacking first lines passed line rest standing old new at lacks = record {
   before = at.before;
   line = line;
   after = rest;
@@ -174,17 +173,17 @@ lacking names lines passed line rest standing old new at lacks = record {
   adds = at.adds;
 }
 
-stops : (names : NamedKeys) (text : List ℕ) (passed : ℕ) (line : List ℕ) (rest : List (List ℕ)) (standing : Standing) (old new : Revocations)
-    (cause : TextCause) → IsAt names (slice_split is_newline text) passed (line ∷ rest) standing old new
-    → ReportsLine cause (line_says standing line) → StopsAt names text (passed + 1) cause old new
-stops names text passed line rest standing old new (causes.Spec specs.NoMemory) at reports = lacking names _ passed line rest standing old new at reports
-stops names text passed line rest standing old new cause at reports = reported names text passed line rest standing old new cause at reports
+stops : (first : Standing) (text : List ℕ) (passed : ℕ) (line : List ℕ) (rest : List (List ℕ)) (standing : Standing) (old new : Revocations)
+    (cause : TextCause) → IsAt first (slice_split is_newline text) passed (line ∷ rest) standing old new
+    → ReportsLine cause (line_says standing line) → StopsAt first text (passed + 1) cause old new
+stops first text passed line rest standing old new (causes.Spec specs.NoMemory) at reports = lacking first _ passed line rest standing old new at reports
+stops first text passed line rest standing old new cause at reports = reported first text passed line rest standing old new cause at reports
 
 -- Reading stops at a line, with its fault or because an allocation failed.
-pub line_stops : (names : NamedKeys) (text : List ℕ) (passed : ℕ) (line : List ℕ) (rest : List (List ℕ)) (standing after : Standing) (old mid new : Revocations) (cause : TextCause)
-    → IsAt names (slice_split is_newline text) passed (line ∷ rest) standing old mid
+pub line_stops : (first : Standing) (text : List ℕ) (passed : ℕ) (line : List ℕ) (rest : List (List ℕ)) (standing after : Standing) (old mid new : Revocations) (cause : TextCause)
+    → IsAt first (slice_split is_newline text) passed (line ∷ rest) standing old mid
     → TakesLine {A = Unit {0}} (line_says standing line) (Err cause) standing after mid new
-    → StopsAt names text (passed + 1) cause old new × (held new ≤ held old + length (lines_with names text).entries)
+    → StopsAt first text (passed + 1) cause old new × (held new ≤ held old + length (lines_with first text).entries)
 unfolding lines_with
-line_stops names text passed line rest standing after old mid new cause at (reports, _, same) =
-    rw same (stops names text passed line rest standing old mid cause at reports, front_is_few names _ passed (line ∷ rest) standing old mid at)
+line_stops first text passed line rest standing after old mid new cause at (reports, _, same) =
+    rw same (stops first text passed line rest standing old mid cause at reports, front_is_few first _ passed (line ∷ rest) standing old mid at)

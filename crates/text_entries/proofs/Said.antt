@@ -18,7 +18,7 @@ use Rattle.ssh_cert.specs.SubjectReading.{subject_of}
 use Rattle.ssh_cert.specs.declared.subject_fault.SubjectFault.{SubjectFault}
 use Rattle.text_entries.specs.AuthorityNames.{NamedKeys}
 use Rattle.text_entries.specs.Reading.{DeclaresName, LacksMemory, ReportsLine, TakesEntry, TakesLine}
-use Rattle.text_entries.specs.Says.{Declares, Names, Under, bare_key_entry, has_zero_id, key_line_says, name_says, names_says, spec_entry, under_says, whole_entry}
+use Rattle.text_entries.specs.Says.{Declares, Names, Over, Saying, Under, bare_key_entry, has_zero_id, key_line_says, name_says, names_says, one_more_over, spec_entry, under_says, unless_over, whole_entry}
 use Rattle.text_entries.specs.TextCause.{MayLackMemory, Reports}
 use Rattle.text_entries.specs.Values.{authority_key_in, begins_with_key, has_zero, unless_certified}
 use Rattle.text_entries.specs.declared.standing.Standing.{Standing}
@@ -130,6 +130,12 @@ pub under_line : (read : Result Entry TextCause) (result : Result (Unit {0}) Tex
     → TakesEntry read result old new → TakesLine (under_says read) result standing standing old new
 under_line read (Ok done) standing old new (entry, is, held) = (Under entry, ap under_says is, (refl, held))
 under_line read (Err cause) standing old new (is, same) = (under_reports cause read is, refl, same)
+
+-- A line that is over leaves what is held as it is.
+pub over_line : (says : Result Saying TextCause) (before after : Standing) (old new r : Revocations)
+    → TakesLine {A = Unit {0}} says (Ok tt) before after old new
+    → TakesLine {A = Unit {0}} (unless_over true says) (Ok tt) before (one_more_over after) r r
+over_line says before after old new r (saying, is, taken) = (Over saying, ap (unless_over true) is, (ap one_more_over taken.0, refl))
 
 -- ---- names
 

@@ -2,10 +2,12 @@ pub mod TextCause
 pub mod Word
 pub mod Values
 pub mod AuthorityNames
+pub mod OneOff
+pub mod Misspelt
+pub mod Day
 pub mod Mark
+pub mod Named
 pub mod Says
 pub mod Lines
 pub mod Reading
-pub mod OneOff
-pub mod Misspelt
 pub mod Hint

@@ -3,8 +3,7 @@ use Rattle.std.specs.Prelude.{ℕ, ◌+◌, List, [], ◌∷◌, Option, Some, N
 use Rattle.std.specs.List.{slice_split}
 use Rattle.key_text.specs.Lines.{is_newline}
 use Rattle.krl_types.specs.Entry.{Entry}
-use Rattle.text_entries.specs.AuthorityNames.{NamedKeys}
-use Rattle.text_entries.specs.Says.{Saying, entry_said, line_says, standing_after}
+use Rattle.text_entries.specs.Says.{Saying, entry_said, first_standing, line_says, standing_after}
 use Rattle.text_entries.specs.declared.standing.Standing.{Standing}
 use Rattle.text_entries.specs.declared.text_cause.TextCause.{TextCause}
 use Rattle.text_entries.specs.declared.text_fault.TextFault.{TextFault}
@@ -39,13 +38,13 @@ lines_from standing number (line ∷ lines) =
 
 -- At the beginning of a text no authority is current, but those that texts before it name have
 -- their names.
-abbrev pub beginning : NamedKeys → Standing
-beginning names = record { current = None; names = names }
+abbrev pub beginning : Standing → Standing
+beginning standing = record standing { current = None }
 
--- the entries of a text, where authorities have these names
-unfoldable pub lines_with : NamedKeys → List ℕ → LineEntries
-lines_with names text = lines_from (beginning names) 1 (slice_split is_newline text)
+-- the entries of a text, behind texts that this stands after
+unfoldable pub lines_with : Standing → List ℕ → LineEntries
+lines_with standing text = lines_from (beginning standing) 1 (slice_split is_newline text)
 
--- the entries of a text by itself
-abbrev pub lines_of : List ℕ → LineEntries
-lines_of text = lines_with [] text
+-- the entries of a text by itself, on this day
+abbrev pub lines_of : (today : ℕ) → List ℕ → LineEntries
+lines_of today text = lines_with (first_standing today) text

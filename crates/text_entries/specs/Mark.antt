@@ -1,5 +1,5 @@
 -- Lines that begin with `@` and the name of a certificate authority (krl(1), THE TEXT OF A LIST).
-use Rattle.std.specs.Prelude.{ℕ, ◌==◌, List, [], ◌∷◌, length, drop, Option, Some, None, option_map}
+use Rattle.std.specs.Prelude.{ℕ, ◌==◌, List, [], ◌∷◌, length, drop, Option, Some, None}
 use Rattle.std.specs.Prelude.{if◌then◌else◌}
 use Rattle.std.specs.List.{before_first}
 use Rattle.ssh_wire.specs.Ascii.{at_sign, colon}

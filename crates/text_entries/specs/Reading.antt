@@ -71,31 +71,31 @@ TakesLine says (Err cause) before after old new =
 
 -- An allocation failed at a line, before a fault of it that needs none: those before it have no
 -- fault, and their entries were added.
-pub record LacksMemoryAt (names : NamedKeys) (lines : List (List ℕ)) (number : ℕ)
+pub record LacksMemoryAt (first : Standing) (lines : List (List ℕ)) (number : ℕ)
     (old new : Revocations) : Type 0 where
   pub before : List (List ℕ)
   pub line : List ℕ
   pub after : List (List ℕ)
   pub parts : lines ≡ before ++ line ∷ after
   pub counted : length before + 1 ≡ number
-  pub faultless : (lines_from (beginning names) 1 before).fault ≡ None
-  pub lacks : LacksMemory (line_says (lines_from (beginning names) 1 before).standing line)
-  pub adds : MeansMore old new (lines_from (beginning names) 1 before).entries
+  pub faultless : (lines_from (beginning first) 1 before).fault ≡ None
+  pub lacks : LacksMemory (line_says (lines_from (beginning first) 1 before).standing line)
+  pub adds : MeansMore old new (lines_from (beginning first) 1 before).entries
 
 -- The entries up to the first fault were added, and the fault is reported.
-abbrev pub StopsAt : NamedKeys → List ℕ → ℕ → TextCause → Revocations → Revocations → Type 0
-StopsAt names text number (causes.Spec specs.NoMemory) old new =
-    LacksMemoryAt names (slice_split is_newline text) number old new
-StopsAt names text number cause old new =
-    ((lines_with names text).fault ≡ Some (fault_at number cause))
-    × MeansMore old new (lines_with names text).entries
+abbrev pub StopsAt : Standing → List ℕ → ℕ → TextCause → Revocations → Revocations → Type 0
+StopsAt first text number (causes.Spec specs.NoMemory) old new =
+    LacksMemoryAt first (slice_split is_newline text) number old new
+StopsAt first text number cause old new =
+    ((lines_with first text).fault ≡ Some (fault_at number cause))
+    × MeansMore old new (lines_with first text).entries
 
--- All entries of the lines were added, no line has a fault, and these names are known after them;
--- or reading stopped at a line.
-abbrev pub ReadsText : NamedKeys → List ℕ → Result NamedKeys TextFault → Revocations
-    → Revocations → Type 0
-ReadsText names text (Ok after) old new =
-    ((lines_with names text).fault ≡ None)
-    × (after ≡ (lines_with names text).standing.names)
-    × MeansMore old new (lines_with names text).entries
-ReadsText names text (Err fault) old new = StopsAt names text fault.line fault.cause old new
+-- All entries of the lines were added, no line has a fault, and this stands after them; or reading
+-- stopped at a line.
+abbrev pub ReadsText : {A : Type 0} → List ℕ → Result A TextFault → (first after : Standing)
+    → (old new : Revocations) → Type 0
+ReadsText text (Ok done) first after old new =
+    ((lines_with first text).fault ≡ None)
+    × (after ≡ (lines_with first text).standing)
+    × MeansMore old new (lines_with first text).entries
+ReadsText text (Err fault) first after old new = StopsAt first text fault.line fault.cause old new

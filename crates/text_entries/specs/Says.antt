@@ -1,6 +1,7 @@
 -- The meaning of a line of the text of a list (krl(1), THE TEXT OF A LIST).
-use Rattle.std.specs.Prelude.{ℕ, List, [], ◌∷◌, Option, Some, None, Result, Ok, Err}
-use Rattle.std.specs.Prelude.{Bool, false, if◌then◌else◌}
+use Rattle.std.specs.Prelude.{ℕ, ℤ, ◌+◌, ◌-◌, ◌^◌, min, List, [], ◌∷◌, Option, Some, None}
+use Rattle.std.specs.Prelude.{Result, Ok, Err, Bool, false, ◌==◌, ◌&&◌, not, nat_lt, length}
+use Rattle.std.specs.Prelude.{if◌then◌else◌}
 use Rattle.ssh_wire.specs.Reading.{◌>>=◌, in_fault}
 use Rattle.run_faults.specs.declared.spec_cause.SpecCause.{SpecCause}
 use Rattle.run_faults.specs.declared.spec_cause.SpecCause.TheVariants as specs
@@ -12,7 +13,9 @@ use Rattle.krl_spec.specs.declared.directive.Directive.TheVariants as directives
 use Rattle.key_text.specs.Blanks.{after_blanks}
 use Rattle.text_entries.specs.AuthorityNames.{NamedKeys, authority_named, can_have, is_name}
 use Rattle.text_entries.specs.AuthorityNames.{with_name}
+use Rattle.text_entries.specs.Day.{dated_content, has_day_in_comment, is_over, last_day, until_in}
 use Rattle.text_entries.specs.Mark.{Mark, given_behind, mark_in}
+use Rattle.text_entries.specs.Named.{can_end, is_entry, named_in}
 use Rattle.text_entries.specs.Values.{authority_blob_in, authority_in, bare_authority_in}
 use Rattle.text_entries.specs.Values.{begins_with_key, blob_in, bytes_in, has_control}
 use Rattle.text_entries.specs.Values.{has_leading_zero, has_zero, is_cut, is_quoted, is_sha1}
@@ -37,6 +40,16 @@ pub data Saying : Type 0 where
   Under : Entry → Saying
   -- A key, a hash or a certificate. No authority is current for the lines that follow.
   Names : Entry → Saying
+  -- what a line would say, if the last day that it has were not over
+  Over : Saying → Saying
+
+-- On this day no lines are read yet.
+abbrev pub first_standing : (today : ℕ) → Standing
+first_standing today = record { today = today; over = 0; current = None; names = [] }
+
+-- one more line is over, of up to 64 bits
+abbrev pub one_more_over : Standing → Standing
+one_more_over standing = record standing { over = min (standing.over + 1) (2 ^ 64 - 1) }
 
 -- what stands after a line that says this
 abbrev pub standing_after : Saying → Standing → Standing
@@ -46,6 +59,7 @@ standing_after (Declares name key) standing =
     record standing { names = with_name standing.names name key }
 standing_after (Under entry) standing = standing
 standing_after (Names entry) standing = record standing { current = None }
+standing_after (Over saying) standing = one_more_over (standing_after saying standing)
 
 abbrev pub entry_said : Saying → Option Entry
 entry_said (Under entry) = Some entry
@@ -189,14 +203,58 @@ abbrev pub key_line_says : List ℕ → Result Saying TextCause
 key_line_says [] = Ok Blank
 key_line_says (byte ∷ bytes) = names_says (bare_key_entry (byte ∷ bytes))
 
-abbrev pub content_says : Standing → List ℕ → Option Mark → Result Saying TextCause
-content_says standing line None = key_line_says (bare_line line)
-content_says standing line (Some mark) = mark_says standing.names line mark.name mark.rest
+abbrev pub unmarked_says : Standing → (line content : List ℕ) → Option Mark
+    → Result Saying TextCause
+unmarked_says standing line content None = key_line_says content
+unmarked_says standing line content (Some mark) =
+    mark_says standing.names line mark.name mark.rest
 
-abbrev pub order_says : Standing → List ℕ → Option Order → Result Saying TextCause
-order_says standing line None = content_says standing line (mark_in (bare_line line))
-order_says standing line (Some order) = word_says standing.current line order.word order.given
+abbrev pub order_says : Standing → (line content : List ℕ) → Option Order
+    → Result Saying TextCause
+order_says standing line content None = unmarked_says standing line content (mark_in content)
+order_says standing line content (Some order) =
+    word_says standing.current line order.word order.given
+
+-- the meaning of a line's content without a last day
+unfoldable pub content_says : Standing → (line content : List ℕ) → Result Saying TextCause
+content_says standing line content = order_says standing line content (order_in content)
+
+-- ---- what lines with last days say
+
+abbrev pub unless_over : Bool → Result Saying TextCause → Result Saying TextCause
+unless_over over (Ok saying) = if over then Ok (Over saying) else Ok saying
+unless_over over (Err cause) = Err cause
+
+-- Content with a last day says what it says without one, up to that day. Its faults are the same on
+-- each day.
+abbrev pub ending_says : Standing → (line content : List ℕ) → (day : Option ℤ)
+    → Result Saying TextCause
+ending_says standing line content None = Err causes.BadDate
+ending_says standing line content (Some day) =
+    if can_end (named_in content)
+    then unless_over (is_over standing.today day) (content_says standing line content)
+    else Err causes.NoLastDay
+
+-- The comment of an entry has a day, which was meant to be its last one. A line that is all
+-- content, or has none, is no entry with a comment.
+abbrev pub is_misplaced : (line content : List ℕ) → Bool
+is_misplaced line content =
+    not (length content == 0) && (nat_lt (length content) (length line)
+    && (has_day_in_comment line && is_entry (named_in content)))
+
+-- A line without a last day has none in its comment.
+abbrev pub endless_says : Standing → (line content : List ℕ) → Result Saying TextCause
+endless_says standing line content =
+    if is_misplaced line content then Err causes.DateInComment
+    else content_says standing line content
+
+abbrev pub until_says : Standing → (line content : List ℕ) → (behind : Option (List ℕ))
+    → Result Saying TextCause
+until_says standing line content None = endless_says standing line content
+until_says standing line content (Some behind) =
+    ending_says standing line (dated_content behind) (last_day behind)
 
 -- The meaning of a line. No authority is current if no line before it gives one that still counts.
 unfoldable pub line_says : Standing → List ℕ → Result Saying TextCause
-line_says standing line = order_says standing line (order_in (bare_line line))
+line_says standing line =
+    until_says standing line (bare_line line) (until_in (bare_line line))

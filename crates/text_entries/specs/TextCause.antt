@@ -11,7 +11,8 @@ use Rattle.text_entries.specs.declared.text_cause.TextCause.TheVariants.{ZeroInI
 use Rattle.text_entries.specs.declared.text_cause.TextCause.TheVariants.{LeadingZero, QuotedId}
 use Rattle.text_entries.specs.declared.text_cause.TextCause.TheVariants.{SeveralIds, BadName}
 use Rattle.text_entries.specs.declared.text_cause.TextCause.TheVariants.{OtherKey, UnknownName}
-use Rattle.text_entries.specs.declared.text_cause.TextCause.TheVariants.{MarkedWord}
+use Rattle.text_entries.specs.declared.text_cause.TextCause.TheVariants.{MarkedWord, BadDate}
+use Rattle.text_entries.specs.declared.text_cause.TextCause.TheVariants.{NoLastDay, DateInComment}
 
 abbrev pub text_cause_number : TextCause → ℕ
 text_cause_number (Spec cause) = 1
@@ -31,6 +32,9 @@ text_cause_number BadName = 14
 text_cause_number OtherKey = 15
 text_cause_number UnknownName = 16
 text_cause_number MarkedWord = 17
+text_cause_number BadDate = 18
+text_cause_number NoLastDay = 19
+text_cause_number DateInComment = 20
 
 abbrev pub text_cause_text : TextCause → List ℕ
 text_cause_text (Spec cause) = codes "text 1 Spec, " ++ spec_cause_text cause
@@ -50,6 +54,9 @@ text_cause_text BadName = codes "text 14 BadName"
 text_cause_text OtherKey = codes "text 15 OtherKey"
 text_cause_text UnknownName = codes "text 16 UnknownName"
 text_cause_text MarkedWord = codes "text 17 MarkedWord"
+text_cause_text BadDate = codes "text 18 BadDate"
+text_cause_text NoLastDay = codes "text 19 NoLastDay"
+text_cause_text DateInComment = codes "text 20 DateInComment"
 
 -- an allocation failed
 abbrev pub no_memory : TextCause
@@ -74,6 +81,9 @@ MayHide BadName = ⊥
 MayHide OtherKey = ⊤
 MayHide UnknownName = ⊥
 MayHide MarkedWord = ⊥
+MayHide BadDate = ⊥
+MayHide NoLastDay = ⊥
+MayHide DateInComment = ⊥
 
 -- An allocation may fail before this is found.
 abbrev pub MayLackMemory : {A : Type 0} → Result A TextCause → Type 0

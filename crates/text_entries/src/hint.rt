@@ -1,12 +1,17 @@
 //! The form that a line with a fault may be meant in.
 
 ghost use Rattle.std.specs.Prelude.{◌≡◌};
-ghost use Rattle.text_entries.specs.Hint.{behind_hint, has_word, hint_at, is_file_name, is_print};
-ghost use Rattle.text_entries.specs.Hint.{key_hint, name_hint, number_hint, word_hint};
+ghost use Rattle.text_entries.specs.Hint.{behind_hint, has_colon, has_word, hint_at};
+ghost use Rattle.text_entries.specs.Hint.{is_entry_value};
+ghost use Rattle.text_entries.specs.Hint.{is_file_name, is_print, key_hint, means_until, name_hint};
+ghost use Rattle.text_entries.specs.Hint.{number_hint, spelling_hint, word_hint};
+ghost use Rattle.text_entries.specs.Mark.{mark_in};
 ghost use Rattle.text_entries.specs.Misspelt.{numbered_line};
 
+use crate::authority::is_all;
+use crate::day::undated;
 use crate::mark::{mark_in, value_in};
-use crate::misspelt::{Misspelt, misspelt_in, numbered_line};
+use crate::misspelt::{Misspelt, before_word_end, is_close, misspelt_in, numbered_line};
 use crate::text_cause::TextCause;
 use crate::text_fault::TextFault;
 use crate::values::{NO_KEY, has_blank, lacks_prefix};
@@ -16,7 +21,7 @@ use krl_spec::{SpecCause, bare_line};
 use std::marker::Model;
 
 // The byte order mark of UTF-8, which some editors write at the beginning of a file.
-const MARK: &[u8] = b"\xef\xbb\xbf";
+const BYTE_ORDER_MARK: &[u8] = b"\xef\xbb\xbf";
 
 /// The form that a line with a fault may be meant in.
 #[derive(Debug, Drop)]
@@ -33,6 +38,10 @@ pub enum Hint<'a> {
     Hexadecimal,
     /// Another line may give the name of an authority that it has.
     Name(LineName<'a>),
+    /// A colon is between the name of an authority and an entry.
+    ColonBehindName,
+    /// The word of a last day is misspelt, or not first on the line.
+    LastDay,
 }
 
 /// The name of an authority that a line begins with.
@@ -53,15 +62,16 @@ impl<'a> Model for LineName<'a> {
 /// The form that the line of a text with this fault may be meant in.
 ///
 /// A line that begins neither with a word and a colon nor with the type name of a key may have a
-/// misspelt word, and the first line may begin with a byte order mark; so may a line behind the
-/// name of an authority. A line that needs a key which is not there may be a fingerprint, or have
-/// the name of the key's file. A serial number that is none may lack its `0x`. A name that is
-/// unknown or that of another key may be given by another line.
+/// misspelt word or last day, and so may what follows the name of an authority. The first line may
+/// begin with a byte order mark. A line that needs a key which is not there may be a fingerprint,
+/// have the name of the key's file, or be an entry with a colon too many. A serial number that is
+/// none may lack its `0x`. A name that is unknown or that of another key may be given by another
+/// line.
 #[tactic(auto, unfolding(crate::specs::Hint::hint_at))]
 pub fn hint_at(text: &[u8], fault: TextFault) -> Option<Hint<'_>>
     ensures { result ≡ hint_at text.now fault.line fault.cause }
 {
-    let content = bare_line(numbered_line(text, fault.line)?);
+    let content = undated(bare_line(numbered_line(text, fault.line)?));
     if fault.cause == TextCause::UnknownWord {
         word_hint(content, fault.line)
     } else if fault.cause == NO_KEY {
@@ -78,12 +88,12 @@ pub fn hint_at(text: &[u8], fault: TextFault) -> Option<Hint<'_>>
 }
 
 /// Whether the line with this number, counted from 1, begins with a word of texts and a colon, or
-/// with the name of an authority before a colon or such a word.
+/// with the name of an authority before a colon or such a word. A last day may be before it.
 pub fn has_word_at(text: &[u8], number: u64) -> bool
     ensures { result ≡ has_word (numbered_line text.now number) }
 {
     match numbered_line(text, number) {
-        Some(line) => value_in(bare_line(line)).is_some(),
+        Some(line) => value_in(undated(bare_line(line))).is_some(),
         None => false,
     }
 }
@@ -92,10 +102,27 @@ pub fn has_word_at(text: &[u8], number: u64) -> bool
 fn word_hint(content: &[u8], number: u64) -> Option<Hint<'_>>
     ensures { result ≡ word_hint content.now number }
 {
-    if number == 1 && content.starts_with(MARK) {
+    if number == 1 && content.starts_with(BYTE_ORDER_MARK) {
         return Some(Hint::ByteOrderMark);
     }
+    spelling_hint(content)
+}
+
+// The form that content may be meant in which begins with no word.
+fn spelling_hint(content: &[u8]) -> Option<Hint<'_>>
+    ensures { result ≡ spelling_hint content.now }
+{
+    if means_until(content) {
+        return Some(Hint::LastDay);
+    }
     Some(Hint::Misspelt(misspelt_in(content)?))
+}
+
+// Whether the first word is the one that means a last day, or one slip off.
+fn means_until(content: &[u8]) -> bool
+    ensures { result ≡ means_until content.now }
+{
+    is_close(before_word_end(content), b"until")
 }
 
 // The form that the content of a line that lacks its key may be meant in.
@@ -109,7 +136,30 @@ fn key_hint(content: &[u8]) -> Option<Hint<'static>>
     if is_file_name(given) {
         return Some(Hint::KeyFile);
     }
+    if has_colon(content) {
+        return Some(Hint::ColonBehindName);
+    }
     None
+}
+
+// Whether a colon is between the name of an authority and an entry.
+fn has_colon(content: &[u8]) -> bool
+    ensures { result ≡ has_colon (mark_in content.now) }
+{
+    let Some(mark) = mark_in(content) else {
+        return false;
+    };
+    match mark.given() {
+        Some(given) => is_entry_value(given),
+        None => false,
+    }
+}
+
+// Whether an entry may have this behind the name of an authority.
+fn is_entry_value(given: &[u8]) -> bool
+    ensures { result ≡ is_entry_value given.now }
+{
+    order_in(given).is_some() || is_all(given)
 }
 
 // The form that the content of a line whose serial number is none may be meant in.
@@ -132,7 +182,7 @@ fn behind_hint(content: &[u8]) -> Option<Hint<'_>>
     if order_in(behind).is_some() {
         return None;
     }
-    Some(Hint::Misspelt(misspelt_in(behind)?))
+    spelling_hint(behind)
 }
 
 // The name of an authority that content begins with.

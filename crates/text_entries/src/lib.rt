@@ -3,10 +3,12 @@
 
 mod authority;
 mod authority_names;
+mod day;
 mod hint;
 mod line;
 mod mark;
 mod misspelt;
+mod named;
 mod one_off;
 mod reading;
 mod standing;
@@ -16,9 +18,11 @@ mod values;
 mod word;
 
 pub use authority_names::AuthorityNames;
+pub use day::day_in;
 pub use hint::{Hint, LineName, has_word_at, hint_at};
 pub use mark::name_given;
 pub use misspelt::{Misspelt, is_close};
+pub use named::{Named, named_in};
 pub use one_off::one_off_where_spelled;
 pub use reading::read_text;
 pub use standing::Standing;

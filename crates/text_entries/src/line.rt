@@ -7,7 +7,8 @@ ghost use Rattle.krl_spec.specs.Entries.{names_entry, order_entry};
 ghost use Rattle.krl_spec.specs.Under.{authority_under};
 ghost use Rattle.krl_types.specs.Entry.{Entry as EntryOf};
 ghost use Rattle.text_entries.specs.Reading.{DeclaresName, TakesEntry, TakesLine};
-ghost use Rattle.text_entries.specs.Says.{bare_key_entry, declares, has_zero_id, hash_entry};
+ghost use Rattle.text_entries.specs.Says.{bare_key_entry, content_says, declares, ending_says};
+ghost use Rattle.text_entries.specs.Says.{has_zero_id, hash_entry, is_misplaced};
 ghost use Rattle.text_entries.specs.Says.{id_entry, id_hex_entry, key_blob_entry, keyed_entry};
 ghost use Rattle.text_entries.specs.Says.{line_says, mark_says, marked_entry, names_says};
 ghost use Rattle.text_entries.specs.Says.{serial_entry, sha1_entry, spec_entry, whole_entry};
@@ -18,7 +19,9 @@ ghost use Rattle.text_entries.specs.declared.text_cause.TextCause.{TextCause as 
 
 use crate::authority::{bytes_of, read_authority, read_authority_blob, read_key, under};
 use crate::authority_names::{AuthorityNames, is_name};
+use crate::day::{dated_content, has_day_in_comment, is_over, last_day, until_in};
 use crate::mark::{Mark, mark_in};
+use crate::named::named_in;
 use crate::standing::Standing;
 use crate::text_cause::TextCause;
 use crate::values::{
@@ -33,8 +36,8 @@ use serial_set::Spans;
 use ssh_cert::Subject;
 use std::alloc::Global;
 
-/// Does what a line says: its authority is current or has a name from now on, or its entry is held.
-/// After a key, a hash or a certificate no authority is current.
+/// Does what a line says: its authority is current or has a name from now on, or its entry is held,
+/// unless its last day is over. After a key, a hash or a certificate no authority is current.
 #[tactic(auto, unfolding(crate::specs::Says::line_says))]
 pub fn take_line<S: Spans>(
     alloc: Global,
@@ -46,6 +49,69 @@ pub fn take_line<S: Spans>(
         revocations.old revocations.new }
 {
     let content = bare_line(line);
+    match until_in(content) {
+        Some(behind) => take_ending(
+            alloc,
+            revocations,
+            standing,
+            line,
+            dated_content(behind),
+            last_day(behind),
+        ),
+        None if is_misplaced(line, content) => Err(TextCause::DateInComment),
+        None => take_content(alloc, revocations, standing, line, content),
+    }
+}
+
+// Whether the comment of an entry has a day, which was meant to be its last one.
+fn is_misplaced(line: &[u8], content: &[u8]) -> bool
+    ensures { result ≡ is_misplaced line.now content.now }
+{
+    !content.is_empty()
+        && content.len() < line.len()
+        && has_day_in_comment(line)
+        && named_in(content).is_entry()
+}
+
+// Does what a line's content with a last day says, unless that day is over.
+fn take_ending<S: Spans>(
+    alloc: Global,
+    revocations: &mut Revocations<S>,
+    standing: &mut Standing,
+    line: &[u8],
+    content: &[u8],
+    day: Option<i32>,
+) -> Result<(), TextCause>
+    ensures { TakesLine (ending_says standing.old line.now content.now day) result
+        standing.old standing.new revocations.old revocations.new }
+{
+    let Some(day) = day else {
+        return Err(TextCause::BadDate);
+    };
+    if !named_in(content).can_end() {
+        return Err(TextCause::NoLastDay);
+    }
+    if !is_over(standing.today, day) {
+        return take_content(alloc, revocations, standing, line, content);
+    }
+    let mut unheld: Revocations<S> = Revocations::new(alloc);
+    take_content(alloc, &mut unheld, standing, line, content)?;
+    standing.over = standing.over.saturating_add(1);
+    Ok(())
+}
+
+// Does what a line's content without a last day says.
+#[tactic(auto, unfolding(crate::specs::Says::content_says))]
+fn take_content<S: Spans>(
+    alloc: Global,
+    revocations: &mut Revocations<S>,
+    standing: &mut Standing,
+    line: &[u8],
+    content: &[u8],
+) -> Result<(), TextCause>
+    ensures { TakesLine (content_says standing.old line.now content.now) result
+        standing.old standing.new revocations.old revocations.new }
+{
     if let Some(order) = order_in(content) {
         return take_order(alloc, revocations, standing, line, order);
     }

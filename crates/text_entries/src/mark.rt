@@ -9,7 +9,7 @@ use crate::word::order_in;
 use key_text::after_blanks;
 use krl_spec::bare_line;
 
-/// The name that a line begins with, and what is behind it.
+/// The name that a line begins with, and the rest of the line.
 #[derive(Clone, Copy)]
 pub(crate) struct Mark<'a> {
     /// The name.

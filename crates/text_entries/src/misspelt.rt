@@ -79,7 +79,7 @@ pub fn is_close(given: &[u8], meant: &[u8]) -> bool
 }
 
 // Whether a word ends before this byte: a colon, an equals sign or a blank.
-fn is_word_end(byte: u8) -> bool
+pub(crate) fn is_word_end(byte: u8) -> bool
     ensures { result ≡ is_word_end byte }
 {
     byte == b':' || byte == b'=' || is_blank(byte)

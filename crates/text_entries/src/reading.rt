@@ -5,7 +5,6 @@ ghost use Rattle.krl_entries.specs.Revocations.{held};
 ghost use Rattle.text_entries.specs.Lines.{lines_with};
 ghost use Rattle.text_entries.specs.Reading.{ReadsText};
 
-use crate::authority_names::AuthorityNames;
 use crate::line::take_line;
 use crate::standing::Standing;
 use crate::text_fault::TextFault;
@@ -14,38 +13,36 @@ use krl_entries::Revocations;
 use serial_set::Spans;
 use std::alloc::Global;
 
-/// Adds the entries of the lines of a text, where authorities have these names, up to the first
-/// line that has a fault or at which an allocation fails. The entries of the lines before it stay
-/// added. The names that are known after the text come back.
+/// Adds the entries of the lines of a text, up to the first line that has a fault or at which an
+/// allocation fails. The entries of the lines before it stay added.
 ///
 /// A line gives the authority of the lines that follow, gives an authority a name, or names at most
-/// one entry. No authority is current before the first line that gives one.
+/// one entry, which may have a last day. No authority is current before the first line that gives
+/// one; what else stands after other texts counts on.
 pub fn read_text<S: Spans>(
     alloc: Global,
     revocations: &mut Revocations<S>,
-    names: AuthorityNames,
+    standing: &mut Standing,
     text: &[u8],
-) -> Result<AuthorityNames, TextFault>
-    ensures reads { ReadsText names text.now result revocations.old revocations.new }
+) -> Result<(), TextFault>
+    ensures reads { ReadsText text.now result standing.old standing.new
+        revocations.old revocations.new }
     ensures held { held revocations.new
-        ≤ held revocations.old + length (lines_with names text.now).entries }
+        ≤ held revocations.old + length (lines_with standing.old text.now).entries }
 {
-    let mut standing = Standing {
-        current: None,
-        names,
-    };
+    standing.current = None;
     let mut rest = text;
     let mut passed = 0;
     'lines: loop {
         let (line, after) = split_line(rest);
-        if let Err(cause) = take_line(alloc, revocations, &mut standing, line) {
+        if let Err(cause) = take_line(alloc, revocations, standing, line) {
             return Err(TextFault {
                 line: passed + 1,
                 cause,
             });
         }
         let Some(after) = after else {
-            return Ok(standing.names);
+            return Ok(());
         };
         rest = after;
         passed += 1;

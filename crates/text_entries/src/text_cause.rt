@@ -46,10 +46,16 @@ pub enum TextCause {
     UnknownName,
     /// Neither a colon nor the word of an entry of certificates is behind the name of an authority.
     MarkedWord,
+    /// No day is behind the word of a last day.
+    BadDate,
+    /// It has a last day, and names no certificates.
+    NoLastDay,
+    /// A last day is in its comment, and not before its entry.
+    DateInComment,
 }
 
 impl TextCause {
-    /// The fault's number, 1 to 17 in the order of the variants.
+    /// The fault's number, 1 to 20 in the order of the variants.
     pub fn number(self) -> u8
         ensures { result ≡ text_cause_number self }
     {
@@ -71,6 +77,9 @@ impl TextCause {
             TextCause::OtherKey => 15,
             TextCause::UnknownName => 16,
             TextCause::MarkedWord => 17,
+            TextCause::BadDate => 18,
+            TextCause::NoLastDay => 19,
+            TextCause::DateInComment => 20,
         }
     }
 }
@@ -97,6 +106,9 @@ impl fmt::Display for TextCause {
             TextCause::OtherKey => f.write_str("text 15 OtherKey"),
             TextCause::UnknownName => f.write_str("text 16 UnknownName"),
             TextCause::MarkedWord => f.write_str("text 17 MarkedWord"),
+            TextCause::BadDate => f.write_str("text 18 BadDate"),
+            TextCause::NoLastDay => f.write_str("text 19 NoLastDay"),
+            TextCause::DateInComment => f.write_str("text 20 DateInComment"),
         }
     }
 }

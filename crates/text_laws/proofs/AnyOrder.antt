@@ -1,5 +1,5 @@
 -- Lines that say the same under any current authority name the same in any order.
-use Rattle.std.proofs.Common.{◌≡◌, ◌⊎◌, ◌↔◌, ℕ, ◌+◌, List, [], ◌∷◌, ◌++◌, All, IsPermutation, Option, Some, None, Result, Ok, Err, flat_map, refl, sym, ap, ◌∙◌, inl, inr}
+use Rattle.std.proofs.Common.{◌≡◌, ◌⊎◌, ℕ, ◌+◌, ◌-◌, ◌^◌, min, List, [], ◌∷◌, ◌++◌, All, IsPermutation, Option, Some, None, Result, Ok, Err, flat_map, refl, sym, ap, ◌∙◌, inl, inr}
 use Rattle.std.specs.List.{slice_split}
 use Rattle.std.proofs.lemmas.List.Elements.{All-cons, All-head, All-nil, All-tail}
 use Rattle.std.proofs.lemmas.List.Sorted.{All-permutation, IsPermutation-sym}
@@ -8,10 +8,11 @@ use Rattle.krl_types.specs.Entry.{Entry}
 use Rattle.krl_types.specs.Naming.{Name, NamesSame, SomeNames}
 use Rattle.text_entries.specs.AuthorityNames.{NamedKeys}
 use Rattle.text_entries.specs.Lines.{LineEntries, before_later, beginning, lines_from, lines_with}
-use Rattle.text_entries.specs.Says.{Blank, Current, Declares, Names, Saying, Under, entry_said, line_says, standing_after}
+use Rattle.text_entries.specs.Says.{Blank, Current, Declares, Names, Over, Saying, Under, entry_said, line_says, one_more_over, standing_after}
+use Rattle.text_entries.specs.declared.standing.Standing.{Standing}
 use Rattle.text_entries.specs.declared.text_cause.TextCause.{TextCause}
 use Rattle.text_laws.specs.AnyOrder.{IsFree}
-use Rattle.text_laws.proofs.FreeLines.{says_free, under}
+use Rattle.text_laws.proofs.FreeLines.{placed, says_free}
 
 -- ---- the entries of lines in their order
 
@@ -23,42 +24,49 @@ abbrev entries_said : Result Saying TextCause → List Entry
 entries_said (Ok saying) = listed (entry_said saying)
 entries_said (Err cause) = []
 
--- the entry of a line where authorities have these names
-abbrev line_entries : NamedKeys → List ℕ → List Entry
-line_entries names line = entries_said (line_says (beginning names) line)
+-- the entry of a line
+abbrev line_entries : Standing → List ℕ → List Entry
+line_entries standing line = entries_said (line_says (beginning standing) line)
+
+-- what stands before lines that leave the names as they are
+abbrev here : Standing → ℕ → Option (List ℕ) → Standing
+here standing over current = placed standing standing.today over current
 
 -- what stands after a line that leaves the names as they are
-still : (names : NamedKeys) (current : Option (List ℕ)) (saying : Saying) → (standing_after saying (beginning names)).names ≡ names
-    → (after : Option (List ℕ)) × (standing_after saying (under names current) ≡ under names after)
-still names current Blank keeps = (current, refl)
-still names current (Current authority) keeps = (Some authority, refl)
-still names current (Declares name key) keeps = (current, ap (λ (known : NamedKeys). under known current) keeps)
-still names current (Under entry) keeps = (current, refl)
-still names current (Names entry) keeps = (None, refl)
+still : (standing : Standing) (over : ℕ) (current : Option (List ℕ)) (saying : Saying) → (standing_after saying (beginning standing)).names ≡ standing.names
+    → (later : ℕ) × (after : Option (List ℕ)) × (standing_after saying (here standing over current) ≡ here standing later after)
+still standing over current Blank keeps = (over, current, refl)
+still standing over current (Current authority) keeps = (over, Some authority, refl)
+still standing over current (Declares name key) keeps = (over, current, ap (λ (known : NamedKeys). record (here standing over current) { names = known }) keeps)
+still standing over current (Under entry) keeps = (over, current, refl)
+still standing over current (Names entry) keeps = (over, None, refl)
+still standing over current (Over saying) keeps =
+    let it = still standing over current saying keeps in (min (it.0 + 1) (2 ^ 64 - 1), it.1, ap one_more_over it.2)
 
 -- the lines have these entries and no fault
 record Has (lines : LineEntries) (entries : List Entry) : Type 0 where
   are : lines.entries ≡ entries
   faultless : lines.fault ≡ None
 
-said_has : (number : ℕ) (names : NamedKeys) (current : Option (List ℕ)) (saying : Saying) (later : LineEntries) (entries : List Entry) → Has later entries
-    → Has (before_later number (under names current) (Ok saying) (λ after. later)) (listed (entry_said saying) ++ entries)
-said_has number names current Blank later entries has = has
-said_has number names current (Current authority) later entries has = has
-said_has number names current (Declares name key) later entries has = has
-said_has number names current (Under entry) later entries has = record { are = ap (λ (es : List Entry). entry ∷ es) has.are; faultless = has.faultless }
-said_has number names current (Names entry) later entries has = record { are = ap (λ (es : List Entry). entry ∷ es) has.are; faultless = has.faultless }
+said_has : (number : ℕ) (standing : Standing) (saying : Saying) (later : LineEntries) (entries : List Entry) → Has later entries
+    → Has (before_later number standing (Ok saying) (λ after. later)) (listed (entry_said saying) ++ entries)
+said_has number standing Blank later entries has = has
+said_has number standing (Current authority) later entries has = has
+said_has number standing (Declares name key) later entries has = has
+said_has number standing (Over saying) later entries has = has
+said_has number standing (Under entry) later entries has = record { are = ap (λ (es : List Entry). entry ∷ es) has.are; faultless = has.faultless }
+said_has number standing (Names entry) later entries has = record { are = ap (λ (es : List Entry). entry ∷ es) has.are; faultless = has.faultless }
 
-free_entries : (names : NamedKeys) (current : Option (List ℕ)) (number : ℕ) (lines : List (List ℕ)) → All (IsFree names) lines
-    → Has (lines_from (under names current) number lines) (flat_map (line_entries names) lines)
-free_entries names current number [] free = record { are = refl; faultless = refl }
-free_entries names current number (line ∷ lines) free =
-    let is = All-head (IsFree names) line lines free in
-    let after = still names current is.saying is.keeps in
-    let later = free_entries names after.0 (number + 1) lines (All-tail (IsFree names) line lines free) in
-    let has = said_has number names current is.saying (lines_from (under names after.0) (number + 1) lines) (flat_map (line_entries names) lines) later in
-    let says : line_says (under names current) line ≡ Ok is.saying = says_free names current line (λ none. cc (sym is.says ∙ none)) ∙ is.says in
-    rw (says, is.says, after.1) has
+free_entries : (standing : Standing) (over : ℕ) (current : Option (List ℕ)) (number : ℕ) (lines : List (List ℕ)) → All (IsFree standing) lines
+    → Has (lines_from (here standing over current) number lines) (flat_map (line_entries standing) lines)
+free_entries standing over current number [] free = record { are = refl; faultless = refl }
+free_entries standing over current number (line ∷ lines) free =
+    let is = All-head (IsFree standing) line lines free in
+    let after = still standing over current is.saying is.keeps in
+    let later = free_entries standing after.0 after.1 (number + 1) lines (All-tail (IsFree standing) line lines free) in
+    let has = said_has number (here standing over current) is.saying (lines_from (here standing after.0 after.1) (number + 1) lines) (flat_map (line_entries standing) lines) later in
+    let says : line_says (here standing over current) line ≡ Ok is.saying = says_free standing over current line (λ none. cc (sym is.says ∙ none)) ∙ is.says in
+    rw (says, is.says, after.2) has
 
 -- ---- names in any order
 
@@ -107,24 +115,24 @@ module _ (name : Name) where
 -- ---- texts
 
 -- Both texts have no fault, and name the same.
-pub record SameNamed (names : NamedKeys) (text other : List ℕ) : Type 0 where
-  pub faultless : (lines_with names text).fault ≡ None
-  pub other_faultless : (lines_with names other).fault ≡ None
-  pub same : NamesSame (lines_with names text).entries (lines_with names other).entries
+pub record SameNamed (standing : Standing) (text other : List ℕ) : Type 0 where
+  pub faultless : (lines_with standing text).fault ≡ None
+  pub other_faultless : (lines_with standing other).fault ≡ None
+  pub same : NamesSame (lines_with standing text).entries (lines_with standing other).entries
 
-pub any_order : (names : NamedKeys) (text other : List ℕ) → IsPermutation (slice_split is_newline text) (slice_split is_newline other)
-    → All (IsFree names) (slice_split is_newline text) → SameNamed names text other
+pub any_order : (standing : Standing) (text other : List ℕ) → IsPermutation (slice_split is_newline text) (slice_split is_newline other)
+    → All (IsFree standing) (slice_split is_newline text) → SameNamed standing text other
 unfolding lines_with
-any_order names text other same free =
+any_order standing text other same free =
     let lines = slice_split is_newline text in
     let others = slice_split is_newline other in
-    let one = free_entries names None 1 lines free in
-    let two = free_entries names None 1 others (All-permutation (IsFree names) lines others same free) in
+    let one = free_entries standing standing.over None 1 lines free in
+    let two = free_entries standing standing.over None 1 others (All-permutation (IsFree standing) lines others same free) in
     record {
       faultless = one.faultless;
       other_faultless = two.faultless;
       same = rw (one.are, two.are) (λ name. (
-        moved name (line_entries names) lines others same,
-        moved name (line_entries names) others lines (IsPermutation-sym lines others same),
+        moved name (line_entries standing) lines others same,
+        moved name (line_entries standing) others lines (IsPermutation-sym lines others same),
       ));
     }

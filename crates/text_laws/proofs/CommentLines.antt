@@ -16,7 +16,8 @@ use Rattle.krl_spec.specs.Blanks.{after_endings, bare_line}
 use Rattle.list_text.specs.Text.{comment_part, list_line}
 use Rattle.ssh_cert.specs.Escape.{hex_digit, numbered}
 use Rattle.text_entries.specs.Mark.{mark_in}
-use Rattle.text_entries.specs.Says.{Blank, line_says}
+use Rattle.text_entries.specs.Says.{content_says, Blank, line_says}
+use Rattle.text_entries.specs.Day.{until_in}
 use Rattle.text_entries.specs.Word.{order_in}
 use Rattle.text_entries.specs.declared.standing.Standing.{Standing}
 use Rattle.text_laws.specs.FactLines.{HasNumbers}
@@ -136,7 +137,7 @@ comment_in_line comment = elim (cases_Bool (length comment == 0)) [
 -- ---- the line
 
 comment_says : (standing : Standing) (comment : List ℕ) → line_says standing (35 ∷ comment) ≡ Ok Blank
-unfolding line_says bare_line after_endings before_ending order_in mark_in
+unfolding line_says content_says until_in bare_line after_endings before_ending order_in mark_in
 comment_says standing comment = refl
 
 comment_reads : (standing : Standing) (comment text : List ℕ) → IsInLine comment

@@ -1,7 +1,7 @@
 -- The content of a line that is a name, a colon, a blank and a value.
-use Rattle.std.proofs.Common.{◌≡◌, ℕ, ◌<◌, ◌==◌, Bool, true, not, List, [], ◌∷◌, ◌++◌, length, reverse, All, refl, sym, ap, ◌∙◌, arith, append_assoc, inl, inr}
+use Rattle.std.proofs.Common.{◌≡◌, ℕ, ◌<◌, ◌==◌, Bool, true, false, not, List, [], ◌∷◌, ◌++◌, length, reverse, All, refl, sym, ap, ◌∙◌, arith, append_assoc, inl, inr}
 use Rattle.std.specs.List.{AllPass, prefix_len, suffix_len}
-use Rattle.std.proofs.lemmas.Bool.{cases_Bool}
+use Rattle.std.proofs.lemmas.Bool.{cases_Bool, eqb-true}
 use Rattle.std.proofs.lemmas.List.{length-reverse, reverse-append}
 use Rattle.std.proofs.lemmas.List.Elements.{All-append, All-cons, All-nil, All-weaker}
 use Rattle.key_text.specs.Blanks.{is_blank, is_ending}
@@ -9,7 +9,9 @@ use Rattle.krl_spec.specs.Blanks.{bare_line, is_hash}
 use Rattle.krl_spec.specs.Spelled.{Counts, IsRemark}
 use Rattle.krl_spec.proofs.CountedLaws.{counted_again}
 use Rattle.krl_spec.proofs.LongestParts.{none_ends, none_stops}
-use Rattle.text_laws.proofs.SolidBytes.{HasNoFeed, IsKept, IsSolid, is_kept, is_solid, kept_no_hash, solid_kept, solid_no_ending}
+use Rattle.text_entries.specs.Day.{has_day_in_comment, says_until}
+use Rattle.text_laws.proofs.DayWords.{no_until, remark_undated}
+use Rattle.text_laws.proofs.SolidBytes.{HasNoFeed, IsKept, IsNoHyphen, IsSolid, is_kept, is_no_hyphen, is_solid, kept_no_hash, solid_kept, solid_no_ending}
 
 abbrev IsNoHash : ℕ → Type 0
 IsNoHash byte = not (is_hash byte) ≡ true
@@ -78,6 +80,7 @@ pub record IsRest (rest : List ℕ) : Type 0 where
   pub parts : rest ≡ back ++ remark
   pub back_is : AllPass is_ending back
   pub remark_is : IsRemark remark
+  pub undated : says_until remark ≡ false
   pub no_feed : All HasNoFeed rest
 
 pub nothing_left : IsRest []
@@ -87,16 +90,18 @@ nothing_left = record {
   parts = refl;
   back_is = All-nil (λ byte. is_ending byte ≡ true);
   remark_is = tt;
+  undated = no_until [] (All-nil IsNoHyphen);
   no_feed = All-nil HasNoFeed;
 }
 
-pub comment_left : (comment : List ℕ) → All HasNoFeed comment → IsRest (32 ∷ 35 ∷ comment)
-comment_left comment no_feed = record {
+pub comment_left : (comment : List ℕ) → AllPass is_no_hyphen comment → All HasNoFeed comment → IsRest (32 ∷ 35 ∷ comment)
+comment_left comment clean no_feed = record {
   back = 32 ∷ [];
   remark = 35 ∷ comment;
   parts = refl;
   back_is = All-cons (λ byte. is_ending byte ≡ true) 32 [] refl (All-nil (λ byte. is_ending byte ≡ true));
   remark_is = refl;
+  undated = no_until (35 ∷ comment) (All-cons IsNoHyphen 35 comment refl clean);
   no_feed = All-cons HasNoFeed 32 (35 ∷ comment) refl (All-cons HasNoFeed 35 comment refl no_feed);
 }
 
@@ -151,6 +156,25 @@ content_is name (byte ∷ value) rest is kept left =
       blanks = All-cons (λ byte. is_blank byte ≡ true) 32 [] refl (All-nil (λ byte. is_blank byte ≡ true));
       is = counted_again (line_of name (byte ∷ value) rest) text counts;
     }
+
+ending_no_hash : (byte : ℕ) → is_ending byte ≡ true → IsNoHash byte
+ending_no_hash byte ends = elim (cases_Bool (is_hash byte)) [
+  | inl hash ↦ let same : byte ≡ 35 = eqb-true byte 35 hash in absurd (let e = rw same at ends in cc e)
+  | inr other ↦ rw other refl
+]
+
+-- a line has no last day in its comment
+pub line_undated : (name value rest : List ℕ) → IsName name → IsValue value → IsRest rest → has_day_in_comment (line_of name value rest) ≡ false
+line_undated name value rest is kept left =
+    let front : List ℕ = name ++ 58 ∷ 32 ∷ (value ++ left.back) in
+    let parts : line_of name value rest ≡ front ++ left.remark =
+    ap (λ (xs : List ℕ). name ++ 58 ∷ 32 ∷ (value ++ xs)) left.parts
+    ∙ sym (append_assoc name (58 ∷ 32 ∷ (value ++ left.back)) left.remark ∙ ap (λ (xs : List ℕ). name ++ 58 ∷ 32 ∷ xs) (append_assoc value left.back left.remark)) in
+    let clean = All-append IsNoHash name (58 ∷ 32 ∷ (value ++ left.back)) (name_no_hash name is)
+    (All-cons IsNoHash 58 (32 ∷ (value ++ left.back)) refl (All-cons IsNoHash 32 (value ++ left.back) refl
+    (All-append IsNoHash value left.back (All-weaker IsKept IsNoHash kept_no_hash value kept.kept)
+    (All-weaker (λ byte. is_ending byte ≡ true) IsNoHash ending_no_hash left.back left.back_is)))) in
+    ap has_day_in_comment parts ∙ remark_undated front left.remark clean left.remark_is left.undated
 
 -- a line without a comment has no `#`
 pub line_no_hash : (name value : List ℕ) → IsName name → IsValue value

@@ -1,11 +1,13 @@
 -- A line that does not lack an authority says the same under any.
-use Rattle.std.proofs.Common.{◌≡◌, ◌≢◌, ℕ, List, Option, Some, None, Err, refl, inl, inr}
+use Rattle.std.proofs.Common.{◌≡◌, ◌≢◌, ℕ, ℤ, List, Option, Some, None, Err, refl, ap, ◌∙◌, inl, inr}
 use Rattle.std.proofs.lemmas.Bool.{cases_Bool}
 use Rattle.run_faults.specs.declared.spec_cause.SpecCause.TheVariants as specs
 use Rattle.krl_spec.specs.Blanks.{bare_line}
-use Rattle.text_entries.specs.AuthorityNames.{NamedKeys}
+use Rattle.text_entries.specs.Day.{dated_content, is_over, last_day, until_in}
+use Rattle.text_entries.specs.Lines.{beginning}
 use Rattle.text_entries.specs.Mark.{Mark, mark_in}
-use Rattle.text_entries.specs.Says.{content_says, id_entry, line_says, order_says, serial_entry, under_says, word_says}
+use Rattle.text_entries.specs.Named.{can_end, named_in}
+use Rattle.text_entries.specs.Says.{content_says, endless_says, ending_says, id_entry, is_misplaced, line_says, order_says, serial_entry, under_says, unless_over, until_says, word_says}
 use Rattle.text_entries.specs.Values.{has_control, has_leading_zero, is_cut, is_quoted, looks_like_key, looks_like_several}
 use Rattle.text_entries.specs.Word.{Order, order_in}
 use Rattle.text_entries.specs.declared.standing.Standing.{Standing}
@@ -50,22 +52,71 @@ word_free authority line given Id lacks = id_free authority line given lacks
 word_free authority line given IdHex lacks = absurd (lacks refl)
 word_free authority line given word lacks = refl
 
--- what stands if this authority is current, and authorities have these names
-abbrev pub under : NamedKeys → Option (List ℕ) → Standing
-under names current = record { current = current; names = names }
+-- ---- content
 
-mark_free : (names : NamedKeys) (authority line : List ℕ) (mark : Option Mark)
-    → content_says (under names (Some authority)) line mark ≡ content_says (under names None) line mark
-mark_free names authority line None = refl
-mark_free names authority line (Some mark) = refl
+-- the same, but for the day, how many lines are over, and the current authority
+abbrev pub placed : Standing → (today over : ℕ) → Option (List ℕ) → Standing
+placed standing today over current = record standing { today = today; over = over; current = current }
 
-order_free : (names : NamedKeys) (authority line : List ℕ) (order : Option Order) → order_says (under names None) line order ≢ Err no_authority
-    → order_says (under names (Some authority)) line order ≡ order_says (under names None) line order
-order_free names authority line None lacks = mark_free names authority line (mark_in (bare_line line))
-order_free names authority line (Some order) lacks = word_free authority line order.given order.word lacks
+-- the same under another current authority
+abbrev pub under : Standing → Option (List ℕ) → Standing
+under standing current = record standing { current = current }
 
-pub says_free : (names : NamedKeys) (current : Option (List ℕ)) (line : List ℕ) → line_says (under names None) line ≢ Err no_authority
-    → line_says (under names current) line ≡ line_says (under names None) line
-unfolding line_says
-says_free names None line lacks = refl
-says_free names (Some authority) line lacks = order_free names authority line (order_in (bare_line line)) lacks
+-- Neither the day nor the number of lines that are over decides what content says without a last day.
+order_placed : (standing : Standing) (today over : ℕ) (line content : List ℕ) (mark : Option Mark) (order : Option Order) → mark_in content ≡ mark
+    → order_says (placed standing today over standing.current) line content order ≡ order_says standing line content order
+order_placed standing today over line content None None found = rw found refl
+order_placed standing today over line content (Some mark) None found = rw found refl
+order_placed standing today over line content mark (Some order) found = refl
+
+pub content_placed : (standing : Standing) (today over : ℕ) (line content : List ℕ)
+    → content_says (placed standing today over standing.current) line content ≡ content_says standing line content
+unfolding content_says
+content_placed standing today over line content = order_placed standing today over line content (mark_in content) (order_in content) refl
+
+order_free : (standing : Standing) (authority line content : List ℕ) (mark : Option Mark) (order : Option Order) → mark_in content ≡ mark
+    → order_says (beginning standing) line content order ≢ Err no_authority
+    → order_says (under standing (Some authority)) line content order ≡ order_says (beginning standing) line content order
+order_free standing authority line content None None found lacks = rw found refl
+order_free standing authority line content (Some mark) None found lacks = rw found refl
+order_free standing authority line content mark (Some order) found lacks = word_free authority line order.given order.word lacks
+
+content_under : (standing : Standing) (current : Option (List ℕ)) (line content : List ℕ) → content_says (beginning standing) line content ≢ Err no_authority
+    → content_says (under standing current) line content ≡ content_says (beginning standing) line content
+unfolding content_says
+content_under standing None line content lacks = refl
+content_under standing (Some authority) line content lacks = order_free standing authority line content (mark_in content) (order_in content) refl lacks
+
+module _ (standing : Standing) (over : ℕ) (current : Option (List ℕ)) (line : List ℕ) where
+  abbrev here : Standing
+  here = placed standing standing.today over current
+
+  abbrev free : Standing
+  free = beginning standing
+
+  content_free : (content : List ℕ) → content_says free line content ≢ Err no_authority → content_says here line content ≡ content_says free line content
+  content_free content lacks = content_placed (under standing current) standing.today over line content ∙ content_under standing current line content lacks
+
+  ending_free : (content : List ℕ) (day : Option ℤ) → ending_says free line content day ≢ Err no_authority
+      → ending_says here line content day ≡ ending_says free line content day
+  ending_free content None lacks = refl
+  ending_free content (Some day) lacks = elim (cases_Bool (can_end (named_in content))) [
+    | inl ends ↦
+        rw ends (ap (unless_over (is_over standing.today day)) (content_free content (λ none. lacks (rw (ends, none) refl))))
+    | inr never ↦ rw never refl
+  ]
+
+  endless_free : (content : List ℕ) → endless_says free line content ≢ Err no_authority → endless_says here line content ≡ endless_says free line content
+  endless_free content lacks = elim (cases_Bool (is_misplaced line content)) [
+    | inl misplaced ↦ rw misplaced refl
+    | inr other ↦ rw other (content_free content (λ none. lacks (rw (other, none) refl)))
+  ]
+
+  until_free : (content : List ℕ) (behind : Option (List ℕ)) → until_says free line content behind ≢ Err no_authority
+      → until_says here line content behind ≡ until_says free line content behind
+  until_free content None lacks = endless_free content lacks
+  until_free content (Some behind) lacks = ending_free (dated_content behind) (last_day behind) lacks
+
+  pub says_free : line_says free line ≢ Err no_authority → line_says here line ≡ line_says free line
+  unfolding line_says
+  says_free lacks = until_free (bare_line line) (until_in (bare_line line)) lacks

@@ -28,6 +28,7 @@ use Rattle.std.proofs.Math.Logic.Iff as Iff
 use Rattle.krl_entries.specs.Facts.{Fact as Held, ItemFact, SerialsFact, facts_of, section_facts}
 use Rattle.list_text.specs.Facts.{Fact, HeldFact}
 use Rattle.list_text.specs.Text.{text_of}
+use Rattle.text_entries.specs.Says.{first_standing}
 use Rattle.text_entries.specs.Lines.{beginning, lines_of, lines_with}
 use Rattle.text_laws.specs.FactLines.{AreSerials as AreSpanSerials, FitsUnder, HasNoZero}
 use Rattle.text_laws.specs.ReadBack.{CanBeShown, IsReadAs, IsReadInto, IsStored, Shown, StopsWith, entries_of_lists, facts_about, text_of_lists}
@@ -185,25 +186,25 @@ held_fit r stored = subst FitAnywhere (append-nil (map HeldFact (facts_of r))) (
 
 pub read_back : (r : Revocations) → IsStored r → IsReadAs (text_of r) (entries_in r)
 unfolding lines_with
-read_back r stored =
-    let read = facts_read 1 (beginning []) (map HeldFact (facts_of r)) (held_fit r stored None) in
+read_back r stored today =
+    let read = facts_read 1 (beginning (first_standing today)) (map HeldFact (facts_of r)) (held_fit r stored None) in
     (read.faultless, read.are ∙ held_named r)
 
-pub means_back : (r : Revocations) → IsStored r → Means r (lines_of (text_of r)).entries
-means_back r stored = subst (Means r) (sym (read_back r stored).1) (means_itself r stored.orderly)
+pub means_back : (r : Revocations) (today : ℕ) → IsStored r → Means r (lines_of today (text_of r)).entries
+means_back r today stored = subst (Means r) (sym (read_back r stored today).1) (means_itself r stored.orderly)
 
 pub same_back : (r held : Revocations) → IsStored r → IsReadInto (text_of r) nothing held → held ≡ r
-same_back r held stored into = sym (one_meaning r held (lines_of (text_of r)).entries (means_back r stored) (into.1.2 [] nothing_meant))
+same_back r held stored (today, after, read) = sym (one_meaning r held (lines_of today (text_of r)).entries (means_back r today stored) (read.2 [] nothing_meant))
 
 -- If reading a text without a fault stops, an allocation failed.
-only_memory : (text : List ℕ) (number : ℕ) (cause : TextCause) (old new : Revocations) → (lines_of text).fault ≡ None
-    → StopsAt [] text number cause old new → cause ≡ no_memory
-only_memory text number (causes.Spec specs.NoMemory) old new faultless stops = refl
-only_memory text number cause old new faultless stops = absurd (let is = stops.0 in cc)
+only_memory : (today : ℕ) (text : List ℕ) (number : ℕ) (cause : TextCause) (old new : Revocations) → (lines_of today text).fault ≡ None
+    → StopsAt (first_standing today) text number cause old new → cause ≡ no_memory
+only_memory today text number (causes.Spec specs.NoMemory) old new faultless stops = refl
+only_memory today text number cause old new faultless stops = absurd (let is = stops.0 in cc)
 
 pub stops_for_memory : (r old new : Revocations) (fault : TextFault) → IsStored r
     → StopsWith (text_of r) fault old new → fault.cause ≡ no_memory
-stops_for_memory r old new fault stored stops = only_memory (text_of r) fault.line fault.cause old new (read_back r stored).0 stops
+stops_for_memory r old new fault stored (today, after, stops) = only_memory today (text_of r) fault.line fault.cause old new (read_back r stored today).0 stops
 
 -- ---- lists that are shown
 
@@ -221,14 +222,14 @@ lists_named (list ∷ lists) =
 pub lists_read_back : (lists : List Shown) → All CanBeShown lists
     → IsReadAs (text_of_lists lists) (entries_of_lists lists)
 unfolding lines_with
-lists_read_back lists shown =
-    let read = facts_read 1 (beginning []) (flat_map facts_about lists) (lists_fit lists shown None) in
+lists_read_back lists shown today =
+    let read = facts_read 1 (beginning (first_standing today)) (flat_map facts_about lists) (lists_fit lists shown None) in
     (read.faultless, read.are ∙ lists_named lists)
 
 -- One list: its entries and those of its text name the same.
-pub list_named_back : (list : Shown) (entries : List Entry) → CanBeShown list → Means list.contents entries
-    → ((lines_of (text_of_lists (list ∷ []))).fault ≡ None) × NamesSame entries (lines_of (text_of_lists (list ∷ []))).entries
-list_named_back list entries shown means =
-    let read = lists_read_back (list ∷ []) (All-cons CanBeShown list [] shown (All-nil CanBeShown)) in
-    let same : (lines_of (text_of_lists (list ∷ []))).entries ≡ entries_in list.contents = read.1 ∙ append-nil (entries_in list.contents) in
+pub list_named_back : (list : Shown) (entries : List Entry) (today : ℕ) → CanBeShown list → Means list.contents entries
+    → ((lines_of today (text_of_lists (list ∷ []))).fault ≡ None) × NamesSame entries (lines_of today (text_of_lists (list ∷ []))).entries
+list_named_back list entries today shown means =
+    let read = lists_read_back (list ∷ []) (All-cons CanBeShown list [] shown (All-nil CanBeShown)) today in
+    let same : (lines_of today (text_of_lists (list ∷ []))).entries ≡ entries_in list.contents = read.1 ∙ append-nil (entries_in list.contents) in
     (read.0, subst (NamesSame entries) (sym same) (λ name. Iff.trans (Iff.symm (means.names name)) ((means_itself list.contents shown.stored.orderly).names name)))

@@ -8,10 +8,11 @@ use Rattle.key_text.specs.Lines.{is_newline}
 use Rattle.krl_types.specs.Entry.{Entry}
 use Rattle.krl_spec.specs.Blanks.{after_endings, bare_line}
 use Rattle.key_text.specs.Blanks.{before_ending}
-use Rattle.text_entries.specs.AuthorityNames.{NamedKeys, with_name}
+use Rattle.text_entries.specs.AuthorityNames.{with_name}
 use Rattle.text_entries.specs.Lines.{LineEntries, before_later, beginning, fault_at, lines_from, lines_with, with_entry}
+use Rattle.text_entries.specs.Day.{says_until, until_in}
 use Rattle.text_entries.specs.Mark.{mark_in}
-use Rattle.text_entries.specs.Says.{Blank, Current, Declares, Names, Saying, Under, entry_said, line_says, standing_after}
+use Rattle.text_entries.specs.Says.{Blank, Current, Declares, Names, Over, Saying, Under, content_says, entry_said, line_says, one_more_over, standing_after}
 use Rattle.text_entries.specs.Word.{order_in}
 use Rattle.text_entries.specs.declared.standing.Standing.{Standing}
 use Rattle.text_entries.specs.declared.text_cause.TextCause.{TextCause}
@@ -33,7 +34,7 @@ later_same number standing (Err cause) one other same = refl
 
 -- an empty line says nothing
 pub blank_says : (standing : Standing) → line_says standing [] ≡ Ok Blank
-unfolding line_says bare_line after_endings before_ending order_in mark_in
+unfolding line_says content_says until_in says_until bare_line after_endings before_ending order_in mark_in
 blank_says standing = refl
 
 pub blank_last : (standing : Standing) (number : ℕ) (lines : List (List ℕ))
@@ -103,34 +104,58 @@ LacksNone lines = (number : ℕ) → lines.fault ≢ Some (fault_at number no_au
 abbrev SaysSame : LineEntries → LineEntries → Type 0
 SaysSame one other = (one.entries ≡ other.entries) × (one.fault ≡ other.fault)
 
-later_free : (number : ℕ) (names : NamedKeys) (current : Option (List ℕ)) (says : Result Saying TextCause) (later : Later)
-    → LacksNone (before_later number (under names None) says later)
-    → ((known : NamedKeys) → LacksNone (later (under known None)) → SaysSame (later (under known current)) (later (under known None)))
-    → SaysSame (before_later number (under names current) says later) (before_later number (under names None) says later)
-later_free number names current (Ok Blank) later lacks step = step names lacks
-later_free number names current (Ok (Current authority)) later lacks step = (refl, refl)
-later_free number names current (Ok (Declares name key)) later lacks step = step (with_name names name key) lacks
-later_free number names current (Ok (Names entry)) later lacks step = (refl, refl)
-later_free number names current (Ok (Under entry)) later lacks step =
-    let same = step names lacks in (ap (λ (entries : List Entry). entry ∷ entries) same.0, same.1)
-later_free number names current (Err cause) later lacks step = (refl, refl)
+-- What stands after a line is the same whatever authority was current, or differs only by that one.
+data Follows (saying : Saying) (standing : Standing) (current : Option (List ℕ)) : Type 0 where
+  alike : standing_after saying (under standing current) ≡ standing_after saying (beginning standing) → Follows saying standing current
+  apart : (known : Standing) → standing_after saying (under standing current) ≡ under known current
+      → standing_after saying (beginning standing) ≡ beginning known → Follows saying standing current
 
-step_free : (number : ℕ) (names : NamedKeys) (current : Option (List ℕ)) (line : List ℕ) (later : Later) (says : Result Saying TextCause)
-    → line_says (under names None) line ≡ says
-    → LacksNone (before_later number (under names None) says later) → line_says (under names current) line ≡ line_says (under names None) line
-step_free number names current line later (Err cause) is lacks =
-    says_free names current line (λ none. let same : cause ≡ no_authority = cc in lacks number (ap (λ (c : TextCause). Some (fault_at number c)) same))
-step_free number names current line later (Ok saying) is lacks = says_free names current line (λ none. absurd cc)
+follows : (saying : Saying) (standing : Standing) (current : Option (List ℕ)) → Follows saying standing current
+follows Blank standing current = apart standing refl refl
+follows (Current authority) standing current = alike refl
+follows (Declares name key) standing current = apart (record standing { names = with_name standing.names name key }) refl refl
+follows (Under entry) standing current = apart standing refl refl
+follows (Names entry) standing current = alike refl
+follows (Over saying) standing current = go (follows saying standing current)
+  where
+    go : Follows saying standing current → Follows (Over saying) standing current
+    go (alike same) = alike (ap one_more_over same)
+    go (apart known one other) = apart (one_more_over known) (ap one_more_over one) (ap one_more_over other)
+
+entry_free : (entry : Option Entry) (one other : LineEntries) → LacksNone (with_entry entry other) → (LacksNone other → SaysSame one other)
+    → SaysSame (with_entry entry one) (with_entry entry other)
+entry_free None one other lacks step = step lacks
+entry_free (Some entry) one other lacks step = let same = step lacks in (ap (λ (entries : List Entry). entry ∷ entries) same.0, same.1)
+
+later_free : (number : ℕ) (standing : Standing) (current : Option (List ℕ)) (says : Result Saying TextCause) (later : Later)
+    → LacksNone (before_later number (beginning standing) says later)
+    → ((known : Standing) → LacksNone (later (beginning known)) → SaysSame (later (under known current)) (later (beginning known)))
+    → SaysSame (before_later number (under standing current) says later) (before_later number (beginning standing) says later)
+later_free number standing current (Err cause) later lacks step = (refl, refl)
+later_free number standing current (Ok saying) later lacks step = go (follows saying standing current)
+  where
+    go : Follows saying standing current → SaysSame (with_entry (entry_said saying) (later (standing_after saying (under standing current)))) (with_entry (entry_said saying) (later (standing_after saying (beginning standing))))
+    go (alike same) = rw same (refl, refl)
+    go (apart known left right) =
+        rw left (entry_free (entry_said saying) (later (under known current)) (later (standing_after saying (beginning standing))) lacks
+        (λ none. rw right (step known (rw right at none))))
+
+step_free : (number : ℕ) (standing : Standing) (current : Option (List ℕ)) (line : List ℕ) (later : Later) (says : Result Saying TextCause)
+    → line_says (beginning standing) line ≡ says
+    → LacksNone (before_later number (beginning standing) says later) → line_says (under standing current) line ≡ line_says (beginning standing) line
+step_free number standing current line later (Err cause) is lacks =
+    says_free standing standing.over current line (λ none. let same : cause ≡ no_authority = cc in lacks number (ap (λ (c : TextCause). Some (fault_at number c)) same))
+step_free number standing current line later (Ok saying) is lacks = says_free standing standing.over current line (λ none. absurd cc)
 
 -- Lines of which none lacks an authority say the same under any.
-lines_free : (names : NamedKeys) (current : Option (List ℕ)) (number : ℕ) (lines : List (List ℕ))
-    → LacksNone (lines_from (under names None) number lines)
-    → SaysSame (lines_from (under names current) number lines) (lines_from (under names None) number lines)
-lines_free names current number [] lacks = (refl, refl)
-lines_free names current number (line ∷ lines) lacks =
+lines_free : (standing : Standing) (current : Option (List ℕ)) (number : ℕ) (lines : List (List ℕ))
+    → LacksNone (lines_from (beginning standing) number lines)
+    → SaysSame (lines_from (under standing current) number lines) (lines_from (beginning standing) number lines)
+lines_free standing current number [] lacks = (refl, refl)
+lines_free standing current number (line ∷ lines) lacks =
     let later = λ (after : Standing). lines_from after (number + 1) lines in
-    let same = step_free number names current line later (line_says (under names None) line) refl lacks in
-    rw same (later_free number names current (line_says (under names None) line) later lacks (λ known. lines_free known current (number + 1) lines))
+    let same = step_free number standing current line later (line_says (beginning standing) line) refl lacks in
+    rw same (later_free number standing current (line_says (beginning standing) line) later lacks (λ known. lines_free known current (number + 1) lines))
 
 -- ---- the lines of two texts
 
@@ -147,7 +172,7 @@ split_joined (byte ∷ front) back = elim (cases_Bool (byte == 10)) [
   | inr other ↦ rw (other, split_joined front back) (onto_joined byte (slice_split is_newline front) (slice_split is_newline back) (omega (arith, length-slice_split is_newline front)))
 ]
 
-module _ (names : NamedKeys) (front back : List ℕ) where
+module _ (standing : Standing) (front back : List ℕ) where
   abbrev text : List ℕ
   text = front ++ 10 ∷ []
 
@@ -157,92 +182,91 @@ module _ (names : NamedKeys) (front back : List ℕ) where
   abbrev second : List (List ℕ)
   second = slice_split is_newline back
 
-  first_lines : lines_with names text ≡ lines_from (beginning names) 1 first
+  first_lines : lines_with standing text ≡ lines_from (beginning standing) 1 first
   unfolding lines_with
-  first_lines = ap (lines_from (beginning names) 1) (split_joined front []) ∙ blank_last (beginning names) 1 first
+  first_lines = ap (lines_from (beginning standing) 1) (split_joined front []) ∙ blank_last (beginning standing) 1 first
 
-  both_lines : lines_with names (text ++ back) ≡ lines_from (beginning names) 1 (first ++ second)
+  both_lines : lines_with standing (text ++ back) ≡ lines_from (beginning standing) 1 (first ++ second)
   unfolding lines_with
   both_lines =
-      ap (λ (t : List ℕ). lines_from (beginning names) 1 (slice_split is_newline t)) (append_assoc front (10 ∷ []) back)
-      ∙ ap (lines_from (beginning names) 1) (split_joined front back)
+      ap (λ (t : List ℕ). lines_from (beginning standing) 1 (slice_split is_newline t)) (append_assoc front (10 ∷ []) back)
+      ∙ ap (lines_from (beginning standing) 1) (split_joined front back)
 
   counted : length first ≡ lines_in text
   counted = omega (arith, length-slice_split is_newline front, sum_by_push (λ (byte : ℕ). cond (is_newline byte) 1 0) front 10)
 
-  after_front : (lines_with names text).fault ≡ None
-      → lines_with names (text ++ back)
-      ≡ with_entries (lines_with names text).entries (moved (lines_in text) (lines_from (lines_with names text).standing 1 second))
+  after_front : (lines_with standing text).fault ≡ None
+      → lines_with standing (text ++ back)
+      ≡ with_entries (lines_with standing text).entries (moved (lines_in text) (lines_from (lines_with standing text).standing 1 second))
   after_front none =
-      let before : LineEntries = lines_from (beginning names) 1 first in
+      let before : LineEntries = lines_from (beginning standing) 1 first in
       let faultless : before.fault ≡ None = ap (λ (lines : LineEntries). lines.fault) (sym first_lines) ∙ none in
       let number : 1 + length first ≡ lines_in text + 1 = omega (arith, counted) in
-      both_lines ∙ named_parts (beginning names) 1 first second faultless
+      both_lines ∙ named_parts (beginning standing) 1 first second faultless
       ∙ ap (λ (n : ℕ). with_entries before.entries (lines_from before.standing n second)) number
       ∙ ap (with_entries before.entries) (lines_moved (lines_in text) 1 before.standing second)
       ∙ ap (λ (lines : LineEntries). with_entries lines.entries (moved (lines_in text) (lines_from lines.standing 1 second))) (sym first_lines)
 
-  back_free : LacksNoAuthority (lines_with names text).standing.names back
-      → SaysSame (lines_from (lines_with names text).standing 1 second) (lines_with (lines_with names text).standing.names back)
+  back_free : LacksNoAuthority (lines_with standing text).standing back
+      → SaysSame (lines_from (lines_with standing text).standing 1 second) (lines_with (lines_with standing text).standing back)
   unfolding lines_with
-  back_free lacks = lines_free (lines_with names text).standing.names (lines_with names text).standing.current 1 second lacks
+  back_free lacks = lines_free (lines_with standing text).standing (lines_with standing text).standing.current 1 second lacks
 
 -- ---- the law
 
--- The entries of a text and then another are those of both, and so is the fault of the second, which knows the names of the first.
-pub record Joins (names : NamedKeys) (front back : List ℕ) : Type 0 where
-  pub entries : (lines_with names (front ++ back)).entries ≡ (lines_with names front).entries ++ (lines_with (lines_with names front).standing.names back).entries
-  pub fault : (lines_with names (front ++ back)).fault ≡ later_by (lines_in front) (lines_with (lines_with names front).standing.names back).fault
+-- The entries of a text and then another are those of both, and so is the fault of the second, which knows the standing of the first.
+pub record Joins (standing : Standing) (front back : List ℕ) : Type 0 where
+  pub entries : (lines_with standing (front ++ back)).entries ≡ (lines_with standing front).entries ++ (lines_with (lines_with standing front).standing back).entries
+  pub fault : (lines_with standing (front ++ back)).fault ≡ later_by (lines_in front) (lines_with (lines_with standing front).standing back).fault
 
-line_joined : (names : NamedKeys) (front back : List ℕ) → (lines_with names (text names front back)).fault ≡ None
-    → LacksNoAuthority (lines_with names (text names front back)).standing.names back
-    → Joins names (text names front back) back
-line_joined names front back none lacks =
-    let same = back_free names front back lacks in
-    let is = after_front names front back none in
+line_joined : (standing : Standing) (front back : List ℕ) → (lines_with standing (text standing front back)).fault ≡ None
+    → LacksNoAuthority (lines_with standing (text standing front back)).standing back
+    → Joins standing (text standing front back) back
+line_joined standing front back none lacks =
+    let same = back_free standing front back lacks in
+    let is = after_front standing front back none in
     record {
-      entries = ap (λ (lines : LineEntries). lines.entries) is ∙ ap (λ (entries : List Entry). (lines_with names (text names front back)).entries ++ entries) same.0;
-      fault = ap (λ (lines : LineEntries). lines.fault) is ∙ ap (later_by (lines_in (text names front back))) same.1;
+      entries = ap (λ (lines : LineEntries). lines.entries) is ∙ ap (λ (entries : List Entry). (lines_with standing (text standing front back)).entries ++ entries) same.0;
+      fault = ap (λ (lines : LineEntries). lines.fault) is ∙ ap (later_by (lines_in (text standing front back))) same.1;
     }
 
 by_none : (fault : Option TextFault) → later_by 0 fault ≡ fault
 by_none None = refl
 by_none (Some fault) = let same : 0 + fault.line ≡ fault.line = omega arith in rw same refl
 
-nothing_said : (names : NamedKeys) → lines_with names [] ≡ record { entries = []; fault = None; standing = beginning names }
+nothing_said : (standing : Standing) → lines_with standing [] ≡ record { entries = []; fault = None; standing = beginning standing }
 unfolding lines_with
-nothing_said names = blank_last (beginning names) 1 []
+nothing_said standing = blank_last (beginning standing) 1 []
 
-none_joined : (names : NamedKeys) (back : List ℕ) → Joins names [] back
-none_joined names back =
-    let known : (lines_with names []).standing.names ≡ names = ap (λ (lines : LineEntries). lines.standing.names) (nothing_said names) in
-    record {
-      entries = rw (nothing_said names) refl;
-      fault = rw (nothing_said names) (sym (by_none (lines_with names back).fault));
-    }
+none_joined : (standing : Standing) (back : List ℕ) → Joins standing [] back
+unfolding lines_with
+none_joined standing back = record {
+  entries = rw (nothing_said standing) refl;
+  fault = rw (nothing_said standing) (sym (by_none (lines_with standing back).fault));
+}
 
-pub joined : (names : NamedKeys) (front back : List ℕ) → AreWholeLines front → (lines_with names front).fault ≡ None
-    → LacksNoAuthority (lines_with names front).standing.names back
-    → Joins names front back
-joined names front back (inl empty) none lacks = subst (λ (t : List ℕ). Joins names t back) (sym empty) (none_joined names back)
-joined names front back (inr (lines, is)) none lacks =
-    subst (λ (t : List ℕ). (lines_with names t).fault ≡ None → LacksNoAuthority (lines_with names t).standing.names back → Joins names t back) (sym is)
-    (λ faultless free. line_joined names lines back faultless free) none lacks
+pub joined : (standing : Standing) (front back : List ℕ) → AreWholeLines front → (lines_with standing front).fault ≡ None
+    → LacksNoAuthority (lines_with standing front).standing back
+    → Joins standing front back
+joined standing front back (inl empty) none lacks = subst (λ (t : List ℕ). Joins standing t back) (sym empty) (none_joined standing back)
+joined standing front back (inr (lines, is)) none lacks =
+    subst (λ (t : List ℕ). (lines_with standing t).fault ≡ None → LacksNoAuthority (lines_with standing t).standing back → Joins standing t back) (sym is)
+    (λ faultless free. line_joined standing lines back faultless free) none lacks
 
-line_stops : (names : NamedKeys) (front back : List ℕ) (fault : TextFault) → (lines_with names (text names front back)).fault ≡ Some fault
-    → lines_with names (text names front back ++ back) ≡ lines_with names (text names front back)
-line_stops names front back fault is =
-    let before = first_lines names front back in
-    both_lines names front back
-    ∙ stopped (beginning names) 1 (first names front back) (second names front back) fault (ap (λ (lines : LineEntries). lines.fault) (sym before) ∙ is) ∙ sym before
+line_stops : (standing : Standing) (front back : List ℕ) (fault : TextFault) → (lines_with standing (text standing front back)).fault ≡ Some fault
+    → lines_with standing (text standing front back ++ back) ≡ lines_with standing (text standing front back)
+line_stops standing front back fault is =
+    let before = first_lines standing front back in
+    both_lines standing front back
+    ∙ stopped (beginning standing) 1 (first standing front back) (second standing front back) fault (ap (λ (lines : LineEntries). lines.fault) (sym before) ∙ is) ∙ sym before
 
 -- Nothing is read after a fault.
-pub stops_first : (names : NamedKeys) (front back : List ℕ) (fault : TextFault) → AreWholeLines front
-    → (lines_with names front).fault ≡ Some fault → lines_with names (front ++ back) ≡ lines_with names front
-stops_first names front back fault (inl empty) is =
-    let none : (lines_with names front).fault ≡ None =
-    ap (λ (t : List ℕ). (lines_with names t).fault) empty ∙ ap (λ (lines : LineEntries). lines.fault) (nothing_said names) in
+pub stops_first : (standing : Standing) (front back : List ℕ) (fault : TextFault) → AreWholeLines front
+    → (lines_with standing front).fault ≡ Some fault → lines_with standing (front ++ back) ≡ lines_with standing front
+stops_first standing front back fault (inl empty) is =
+    let none : (lines_with standing front).fault ≡ None =
+    ap (λ (t : List ℕ). (lines_with standing t).fault) empty ∙ ap (λ (lines : LineEntries). lines.fault) (nothing_said standing) in
     absurd cc
-stops_first names front back fault (inr (lines, whole)) is =
-    subst (λ (t : List ℕ). (lines_with names t).fault ≡ Some fault → lines_with names (t ++ back) ≡ lines_with names t) (sym whole)
-    (λ faulty. line_stops names lines back fault faulty) is
+stops_first standing front back fault (inr (lines, whole)) is =
+    subst (λ (t : List ℕ). (lines_with standing t).fault ≡ Some fault → lines_with standing (t ++ back) ≡ lines_with standing t) (sym whole)
+    (λ faulty. line_stops standing lines back fault faulty) is

@@ -1,6 +1,7 @@
 mod FreeLines
 mod JoinedTexts
 mod SolidBytes
+mod DayWords
 mod Contents
 mod Orders
 mod LineReads
@@ -18,3 +19,4 @@ mod MadeLists
 mod Printed
 mod SpecLines
 mod AnyOrder
+mod Days

@@ -12,20 +12,22 @@ use Rattle.text_laws.specs.MadeLists.{IsMergedOf, only_text_of}
 use Rattle.text_laws.specs.ReadBack.{CanBeShown, IsReadAs, Shown, entries_of_lists, text_of_lists}
 use Rattle.text_laws.proofs.HeldTexts.{lists_read_back}
 use Rattle.text_entries.specs.Lines.{lines_of}
-use Rattle.text_run.specs.Making.{Makes, Wanted, text_from, texts_entries}
+use Rattle.text_entries.specs.Says.{first_standing}
+use Rattle.text_run.specs.Making.{Makes, Wanted, day_at, text_from, texts_entries}
 
-text_read : (is_file : Bool) (name bytes : List ℕ) (entries : List Entry) → IsReadAs bytes entries
-    → text_from [] (record { name = name; is_file = is_file; content = Ok bytes })
-    ≡ Ok (record { entries = entries; names = (lines_of bytes).standing.names })
+text_read : (today : ℕ) (is_file : Bool) (name bytes : List ℕ) (entries : List Entry) → IsReadAs bytes entries
+    → text_from (first_standing today) (record { name = name; is_file = is_file; content = Ok bytes })
+    ≡ Ok (record { entries = entries; standing = (lines_of today bytes).standing })
 unfolding text_from
-text_read is_file name bytes entries read = rw (read.0, read.1) refl
+text_read today is_file name bytes entries read = rw ((read today).0, (read today).1) refl
 
 pub entries_made : (lists : List Shown) (wanted : Wanted) (is_file : Bool) (name bytes : List ℕ) (contents : Revocations) → All CanBeShown lists
     → (made : Makes wanted nothing (only_text_of is_file name lists) bytes contents) → made.entries ≡ entries_of_lists lists
 entries_made lists wanted is_file name bytes contents shown made =
     let named : List Entry = entries_of_lists lists in
-    let one = text_read is_file name (text_of_lists lists) named (lists_read_back lists shown) in
-    let all : texts_entries (only_text_of is_file name lists) ≡ Ok (named ++ []) = rw one refl in
+    let today : ℕ = day_at wanted.header.date in
+    let one = text_read today is_file name (text_of_lists lists) named (lists_read_back lists shown) in
+    let all : texts_entries today (only_text_of is_file name lists) ≡ Ok (named ++ []) = rw one refl in
     let given : made.entries ≡ named ++ [] = let is = sym made.read ∙ all in cc in
     given ∙ append-nil named
 

@@ -1,6 +1,7 @@
 -- Lines of certificate authorities and keys.
-use Rattle.std.proofs.Common.{◌≡◌, ◌≢◌, ℕ, ◌==◌, false, List, [], ◌∷◌, ◌++◌, length, All, codes, Option, Some, Result, Ok, Err, refl, ◌∙◌, arith}
+use Rattle.std.proofs.Common.{◌≡◌, ◌≢◌, ℕ, ◌==◌, false, List, [], ◌∷◌, ◌++◌, length, All, codes, Some, Result, Ok, Err, refl, ◌∙◌, arith}
 use Rattle.std.proofs.lemmas.Bool.{ne_eqb}
+use Rattle.std.specs.List.{AllPass}
 use Rattle.std.proofs.lemmas.List.Sums.{AllPass-from_list_all}
 use Rattle.std.proofs.lemmas.List.Elements.{All-append, All-cons, All-weaker}
 use Rattle.base64.proofs.EngineFacts.{decode_of-encode_of}
@@ -30,7 +31,7 @@ use Rattle.text_laws.proofs.Contents.{IsName, IsRest, comment_left, nothing_left
 use Rattle.text_laws.proofs.KeyValues.{begins_named, key_is_value, key_subject, key_value}
 use Rattle.text_laws.proofs.LineReads.{Reads, comment_text, line_reads, literal_name, plain_text}
 use Rattle.text_laws.proofs.Orders.{word_line_says}
-use Rattle.text_laws.proofs.SolidBytes.{HasNoFeed, IsSolid, base64_solid, is_solid, kept_no_feed, solid_kept, unpadded_solid}
+use Rattle.text_laws.proofs.SolidBytes.{HasNoFeed, IsNoHyphen, IsSolid, base64_solid, is_no_hyphen, is_solid, kept_no_feed, solid_kept, unpadded_no_hyphen, unpadded_solid}
 
 -- ---- the fingerprint behind a key
 
@@ -40,8 +41,14 @@ print_no_feed blob =
     let solid = All-append IsSolid (codes "SHA256:") (unpadded (sha256 blob)) (AllPass-from_list_all is_solid (codes "SHA256:") refl) (unpadded_solid (sha256 blob)) in
     All-weaker IsSolid HasNoFeed (λ byte is. kept_no_feed byte (solid_kept byte is)) (codes "SHA256:" ++ unpadded (sha256 blob)) solid
 
+print_no_hyphen : (blob : List ℕ) → AllPass is_no_hyphen (fingerprint_text Sha256 blob)
+unfolding fingerprint_text
+print_no_hyphen blob =
+    All-append IsNoHyphen (codes "SHA256:") (unpadded (sha256 blob)) (AllPass-from_list_all is_no_hyphen (codes "SHA256:") refl) (unpadded_no_hyphen (sha256 blob))
+
 print_left : (blob : List ℕ) → IsRest (32 ∷ 35 ∷ 32 ∷ fingerprint_text Sha256 blob)
-print_left blob = comment_left (32 ∷ fingerprint_text Sha256 blob) (All-cons HasNoFeed 32 (fingerprint_text Sha256 blob) refl (print_no_feed blob))
+print_left blob =
+    comment_left (32 ∷ fingerprint_text Sha256 blob) (All-cons IsNoHyphen 32 (fingerprint_text Sha256 blob) refl (print_no_hyphen blob)) (All-cons HasNoFeed 32 (fingerprint_text Sha256 blob) refl (print_no_feed blob))
 
 -- ---- bytes
 

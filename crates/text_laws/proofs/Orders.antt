@@ -1,15 +1,18 @@
 -- Lines that are a name, a colon, a blank and a value.
-use Rattle.std.proofs.Common.{◌≡◌, ℕ, ◌+◌, ◌==◌, not, List, ◌∷◌, ◌++◌, drop, Option, Some, option_map, refl, ap, ◌∙◌}
+use Rattle.std.proofs.Common.{◌≡◌, ℕ, ◌+◌, ◌==◌, not, List, ◌∷◌, ◌++◌, drop, None, Some, option_map, refl, ap, ◌∙◌}
 use Rattle.std.specs.List.{AllPass, position_or_len, prefix_len}
 use Rattle.key_text.specs.Blanks.{after_blanks, is_blank}
 use Rattle.krl_spec.specs.Blanks.{bare_line}
 use Rattle.krl_spec.specs.Directive.{is_colon}
 use Rattle.krl_spec.proofs.LongestParts.{cut_again, front_gone}
-use Rattle.text_entries.specs.Says.{line_says, word_says}
+use Rattle.text_entries.specs.Day.{until_in}
+use Rattle.text_entries.specs.Says.{content_says, line_says, word_says}
 use Rattle.text_entries.specs.Word.{order, order_in, word_named}
 use Rattle.text_entries.specs.declared.standing.Standing.{Standing}
 use Rattle.text_entries.specs.declared.word.Word.{Word}
-use Rattle.text_laws.proofs.Contents.{IsName, IsRest, IsValue, content_is, line_of, no_blank}
+use Rattle.text_entries.proofs.LastDays.{word_undated}
+use Rattle.text_laws.proofs.Contents.{IsName, IsRest, IsValue, content_is, line_of, line_undated, no_blank}
+use Rattle.text_laws.proofs.DayWords.{not_misplaced}
 
 -- ---- the name and the value
 
@@ -30,9 +33,11 @@ pub word_line_says : (standing : Standing) (name value rest : List ℕ) (word : 
     → IsValue value → IsRest rest
     → word_named name ≡ Some word
     → line_says standing (line_of name value rest) ≡ word_says standing.current (line_of name value rest) word value
-unfolding line_says
+unfolding line_says content_says
 word_line_says standing name value rest word is kept left named =
     let content = content_is name value rest is kept left in
     let found : order_in (bare_line (line_of name value rest)) ≡ Some (order value word) =
     ap order_in content.is ∙ order_is name content.gap value is.no_colon content.blanks (no_blank value kept.starts) ∙ ap (option_map (order value)) named in
-    rw found refl
+    let endless : until_in (bare_line (line_of name value rest)) ≡ None = word_undated _ _ found in
+    let placed = not_misplaced (line_of name value rest) (bare_line (line_of name value rest)) (line_undated name value rest is kept left) in
+    rw (endless, placed, found) refl

@@ -1,6 +1,6 @@
 -- Bytes that a line keeps as they are: numbers, hexadecimal digits, base64 and names have no others.
 use Rattle.std.proofs.lemmas.Grind.{common_steps}
-use Rattle.std.proofs.Common.{◌≡◌, ℕ, ◌+◌, ◌*◌, ◌/◌, ◌%◌, ◌<◌, ◌==◌, ◌&&◌, Bool, true, false, not, List, [], ◌∷◌, length, map, replicate, slice_index, decimal, refl, ap, arith, inl, inr, ◌^◌}
+use Rattle.std.proofs.Common.{◌≡◌, ℕ, ◌+◌, ◌*◌, ◌/◌, ◌%◌, ◌<◌, ◌==◌, ◌&&◌, Bool, true, false, not, List, [], ◌∷◌, length, map, replicate, slice_index, decimal, refl, ap, ◌∙◌, arith, inl, inr, ◌^◌}
 use Rattle.std.proofs.lemmas.Bool.{and_parts, cases_Bool, cases_lt, eqb-true, not-true, or_cases}
 use Rattle.std.proofs.lemmas.Fmt.{decimal_is_IsNumeral}
 use Rattle.std.proofs.lemmas.List.{get_or_past}
@@ -51,50 +51,63 @@ kept_no_feed byte is = not-true (byte == 10) (and_parts (not (byte == 10)) (not 
 
 -- ---- texts by a table of symbols
 
-module _ (table : List ℕ) (each : list_all is_solid table ≡ true) where
-  symbol : (i : ℕ) → IsSolid (slice_index table i)
+module _ (passes : ℕ → Bool) (zero_passes : passes 0 ≡ true) (table : List ℕ) (each : list_all passes table ≡ true) where
+  abbrev Passes : ℕ → Type 0
+  Passes byte = passes byte ≡ true
+
+  symbol : (i : ℕ) → Passes (slice_index table i)
   symbol i = elim (cases_lt i (length table)) [
-    | inl lt ↦ AllPass-from_list_all is_solid table each i 0 lt
-    | inr le ↦ ap is_solid (get_or_past table i 0 le)
+    | inl lt ↦ AllPass-from_list_all passes table each i 0 lt
+    | inr le ↦ ap passes (get_or_past table i 0 le) ∙ zero_passes
   ]
 
-  symbols_of : (places : List ℕ) → AllPass is_solid (map (slice_index table) places)
-  symbols_of [] = All-nil IsSolid
-  symbols_of (i ∷ places) = All-cons IsSolid (slice_index table i) (map (slice_index table) places) (symbol i) (symbols_of places)
+  symbols_of : (places : List ℕ) → AllPass passes (map (slice_index table) places)
+  symbols_of [] = All-nil Passes
+  symbols_of (i ∷ places) = All-cons Passes (slice_index table i) (map (slice_index table) places) (symbol i) (symbols_of places)
 
-  symbols : (bytes : List ℕ) → AllPass is_solid (encode_symbols table bytes)
+  symbols : (bytes : List ℕ) → AllPass passes (encode_symbols table bytes)
   unfolding encode_symbols
-  symbols [] = All-nil IsSolid
+  symbols [] = All-nil Passes
   symbols (a ∷ []) = symbols_of (a / 4 ∷ a % 4 * 16 ∷ [])
   symbols (a ∷ b ∷ []) = symbols_of (a / 4 ∷ (a % 4 * 16 + b / 16) ∷ b % 16 * 4 ∷ [])
   symbols (a ∷ b ∷ c ∷ rest) =
-      All-append IsSolid (encode_group table a b c) (encode_symbols table rest)
+      All-append Passes (encode_group table a b c) (encode_symbols table rest)
       (symbols_of (a / 4 ∷ (a % 4 * 16 + b / 16) ∷ (b % 16 * 4 + c / 64) ∷ c % 64 ∷ [])) (symbols rest)
 
-  hex_digits : (bytes : List ℕ) → AllPass is_solid (encode_with table bytes)
+  hex_digits : (bytes : List ℕ) → AllPass passes (encode_with table bytes)
   unfolding encode_with
-  hex_digits [] = All-nil IsSolid
+  hex_digits [] = All-nil Passes
   hex_digits (byte ∷ rest) =
-      All-cons IsSolid (slice_index table (byte / 16)) (slice_index table (byte % 16) ∷ encode_with table rest) (symbol (byte / 16))
-      (All-cons IsSolid (slice_index table (byte % 16)) (encode_with table rest) (symbol (byte % 16)) (hex_digits rest))
+      All-cons Passes (slice_index table (byte / 16)) (slice_index table (byte % 16) ∷ encode_with table rest) (symbol (byte / 16))
+      (All-cons Passes (slice_index table (byte % 16)) (encode_with table rest) (symbol (byte % 16)) (hex_digits rest))
 
 abbrev table : List ℕ
 table = engine_symbols standard
 
 pub base64_solid : (bytes : List ℕ) → AllPass is_solid (encode_of standard bytes)
 base64_solid bytes =
-    All-append IsSolid (encode_symbols table bytes) (replicate (padding_len (length bytes)) 61) (symbols table refl bytes)
+    All-append IsSolid (encode_symbols table bytes) (replicate (padding_len (length bytes)) 61) (symbols is_solid refl table refl bytes)
     (All-replicate IsSolid (padding_len (length bytes)) 61 refl)
 
 pub unpadded_solid : (bytes : List ℕ) → AllPass is_solid (unpadded bytes)
 unfolding unpadded
-unpadded_solid bytes = All-append IsSolid (encode_symbols table bytes) [] (symbols table refl bytes) (All-nil IsSolid)
+unpadded_solid bytes = All-append IsSolid (encode_symbols table bytes) [] (symbols is_solid refl table refl bytes) (All-nil IsSolid)
+
+abbrev pub is_no_hyphen : ℕ → Bool
+is_no_hyphen byte = not (byte == 45)
+
+abbrev pub IsNoHyphen : ℕ → Type 0
+IsNoHyphen byte = is_no_hyphen byte ≡ true
+
+pub unpadded_no_hyphen : (bytes : List ℕ) → AllPass is_no_hyphen (unpadded bytes)
+unfolding unpadded
+unpadded_no_hyphen bytes = All-append IsNoHyphen (encode_symbols table bytes) [] (symbols is_no_hyphen refl table refl bytes) (All-nil IsNoHyphen)
 
 pub hex_solid : (bytes : List ℕ) → AllPass is_solid (encode_lower bytes)
-hex_solid bytes = hex_digits lower_digits refl bytes
+hex_solid bytes = hex_digits is_solid refl lower_digits refl bytes
 
 pub hex_symbol : (i : ℕ) → IsSolid (slice_index lower_digits i)
-hex_symbol i = symbol lower_digits refl i
+hex_symbol i = symbol is_solid refl lower_digits refl i
 
 -- ---- numbers
 
@@ -108,13 +121,13 @@ digits_solid (c ∷ digits) all = All-cons IsSolid c digits (digit_solid c all.0
 pub decimal_solid : (n : ℕ) → n < 2 ^ 64 → AllPass is_solid (decimal n)
 decimal_solid n small = digits_solid (decimal n) (decimal_is_IsNumeral n small).0.1
 
-digit_no_hyphen : (c : ℕ) → digit_value c < 10 → not (c == 45) ≡ true
+digit_no_hyphen : (c : ℕ) → digit_value c < 10 → IsNoHyphen c
 digit_no_hyphen c digit = grind (arith, common_steps, cases_Bool, eqb-true)
 
-digits_no_hyphen : (digits : List ℕ) → AllDigits 10 digits → AllPass (λ byte. not (byte == 45)) digits
-digits_no_hyphen [] all = All-nil (λ (byte : ℕ). not (byte == 45) ≡ true)
+digits_no_hyphen : (digits : List ℕ) → AllDigits 10 digits → AllPass is_no_hyphen digits
+digits_no_hyphen [] all = All-nil IsNoHyphen
 digits_no_hyphen (c ∷ digits) all =
-    All-cons (λ (byte : ℕ). not (byte == 45) ≡ true) c digits (digit_no_hyphen c all.0) (digits_no_hyphen digits all.1)
+    All-cons IsNoHyphen c digits (digit_no_hyphen c all.0) (digits_no_hyphen digits all.1)
 
-pub decimal_no_hyphen : (n : ℕ) → n < 2 ^ 64 → AllPass (λ byte. not (byte == 45)) (decimal n)
+pub decimal_no_hyphen : (n : ℕ) → n < 2 ^ 64 → AllPass is_no_hyphen (decimal n)
 decimal_no_hyphen n small = digits_no_hyphen (decimal n) (decimal_is_IsNumeral n small).0.1

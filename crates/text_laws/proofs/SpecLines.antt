@@ -16,13 +16,16 @@ use Rattle.krl_spec.specs.Directive.{directive_named, directives as all_directiv
 use Rattle.krl_spec.specs.Entries.{bare_entry, counted_entry, line_entry, order_entry}
 use Rattle.krl_spec.specs.declared.directive.Directive.{Directive}
 use Rattle.krl_spec.specs.declared.directive.Directive.TheVariants as directives
-use Rattle.text_entries.specs.Says.{key_line_says, line_says, names_says, spec_entry, whole_entry, word_says}
+use Rattle.text_entries.specs.Day.{has_day_in_comment, until_in}
+use Rattle.text_entries.specs.Says.{content_says, key_line_says, line_says, names_says, spec_entry, whole_entry, word_says}
 use Rattle.text_entries.specs.Mark.{mark_in}
 use Rattle.text_entries.specs.Values.{begins_with_key}
 use Rattle.text_entries.specs.Word.{name_of, order, order_in, word_named, words as all_words}
 use Rattle.text_entries.specs.declared.standing.Standing.{Standing}
 use Rattle.text_entries.specs.declared.word.Word.{Word}
 use Rattle.text_entries.specs.declared.word.Word.TheVariants as words
+use Rattle.text_entries.proofs.LastDays.{key_undated, word_undated}
+use Rattle.text_laws.proofs.DayWords.{not_misplaced}
 use Rattle.text_laws.specs.SpecLines.{IsBareAlike, IsReadAlike, IsWhole, bare_says, spec_says}
 
 -- ---- the name
@@ -108,11 +111,12 @@ alike current line given directives.Sha256 is = rw is refl
 alike current line given directives.Hash is = rw is refl
 
 pub directive_says : (standing : Standing) (line given : List ℕ) (directive : Directive)
-    → spec_order_in (bare_line line) ≡ Some (spec_order given directive) → IsReadAlike line directive given
+    → spec_order_in (bare_line line) ≡ Some (spec_order given directive) → IsReadAlike line directive given → has_day_in_comment line ≡ false
     → line_says standing line ≡ spec_says directive (order_entry standing.current directive given)
-unfolding line_says
-directive_says standing line given directive found is =
-    rw (order_is (bare_line line) given directive found) (alike standing.current line given directive is)
+unfolding line_says content_says
+directive_says standing line given directive found is placed =
+    let ordered = order_is (bare_line line) given directive found in
+    rw (word_undated (bare_line line) _ ordered, not_misplaced line (bare_line line) placed, ordered) (alike standing.current line given directive is)
 
 whole_says : (read : Result Entry SpecCause) → IsWhole read → (spec_entry read >>= whole_entry) ≡ spec_entry read
 whole_says (Ok entry) whole = rw whole refl
@@ -144,8 +148,13 @@ unmarked (byte ∷ content) alike = elim (cases_Bool (byte == 64)) [
   | inr other ↦ rw other refl
 ]
 
+endless : (content : List ℕ) → IsBareAlike content → until_in content ≡ None
+unfolding until_in
+endless [] alike = refl
+endless (byte ∷ content) alike = key_undated (byte ∷ content) alike.0
+
 pub key_says : (standing : Standing) (line : List ℕ) → order_in (bare_line line) ≡ None
-    → IsBareAlike (bare_line line) → line_says standing line ≡ bare_says (line_entry standing.current line)
-unfolding line_says line_entry
-key_says standing line none alike =
-    rw (none, unmarked (bare_line line) alike) (bare_content_says standing.current (bare_line line) (none_is (bare_line line) none) alike)
+    → IsBareAlike (bare_line line) → has_day_in_comment line ≡ false → line_says standing line ≡ bare_says (line_entry standing.current line)
+unfolding line_says content_says line_entry
+key_says standing line none alike placed =
+    rw (endless (bare_line line) alike, not_misplaced line (bare_line line) placed, none, unmarked (bare_line line) alike) (bare_content_says standing.current (bare_line line) (none_is (bare_line line) none) alike)

@@ -3,8 +3,8 @@ use Rattle.std.specs.Prelude.{◌≡◌, ◌≢◌, ℕ, ◌+◌, ◌⊎◌, Lis
 use Rattle.std.specs.List.{count_by}
 use Rattle.run_faults.specs.declared.spec_cause.SpecCause.TheVariants as specs
 use Rattle.key_text.specs.Lines.{is_newline}
-use Rattle.text_entries.specs.AuthorityNames.{NamedKeys}
 use Rattle.text_entries.specs.Lines.{fault_at, lines_with}
+use Rattle.text_entries.specs.declared.standing.Standing.{Standing}
 use Rattle.text_entries.specs.declared.text_cause.TextCause.TheVariants.{Spec}
 use Rattle.text_entries.specs.declared.text_fault.TextFault.{TextFault}
 
@@ -12,15 +12,15 @@ use Rattle.text_entries.specs.declared.text_fault.TextFault.{TextFault}
 abbrev pub AreWholeLines : List ℕ → Type 0
 AreWholeLines text = (text ≡ []) ⊎ ((front : List ℕ) × (text ≡ front ++ codes "\n"))
 
--- The first fault of the text, where authorities have these names, is not that a line lacks an
--- authority.
-abbrev pub LacksNoAuthority : NamedKeys → List ℕ → Type 0
-LacksNoAuthority names text =
-    (number : ℕ) → (lines_with names text).fault ≢ Some (fault_at number (Spec specs.NoAuthority))
+-- The first fault of the text, behind others, is not that a line lacks an authority.
+abbrev pub LacksNoAuthority : Standing → List ℕ → Type 0
+LacksNoAuthority standing text =
+    (number : ℕ)
+    → (lines_with standing text).fault ≢ Some (fault_at number (Spec specs.NoAuthority))
 
--- the names that are known after a text
-abbrev pub names_after : NamedKeys → List ℕ → NamedKeys
-names_after names text = (lines_with names text).standing.names
+-- what stands behind a text
+abbrev pub behind : Standing → List ℕ → Standing
+behind standing text = (lines_with standing text).standing
 
 -- the same fault, this many lines later
 abbrev pub later_by : ℕ → Option TextFault → Option TextFault

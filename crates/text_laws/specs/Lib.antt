@@ -5,3 +5,4 @@ pub mod MadeLists
 pub mod Printed
 pub mod SpecLines
 pub mod AnyOrder
+pub mod Days

@@ -1,5 +1,5 @@
 -- Texts that are read as what they were printed from.
-use Rattle.std.specs.Prelude.{◌≡◌, ℕ, List, [], ◌∷◌, map, All, Option, None, Ok, Err}
+use Rattle.std.specs.Prelude.{◌≡◌, ℕ, List, ◌∷◌, map, All, Option, None, Ok, Err}
 use Rattle.std.specs.List.{concat, flat_map}
 use Rattle.ssh_wire.specs.Wire.{IsBytes}
 use Rattle.krl_entries.specs.Canonical.{entries_in}
@@ -8,9 +8,10 @@ use Rattle.krl_format.specs.declared.header.Header.{Header}
 use Rattle.krl_types.specs.Entry.{Entry}
 use Rattle.list_text.specs.Facts.{Fact, ListFact, facts_of}
 use Rattle.list_text.specs.Text.{fact_line}
-use Rattle.text_entries.specs.AuthorityNames.{NamedKeys}
 use Rattle.text_entries.specs.Lines.{lines_of}
 use Rattle.text_entries.specs.Reading.{ReadsText}
+use Rattle.text_entries.specs.Says.{first_standing}
+use Rattle.text_entries.specs.declared.standing.Standing.{Standing}
 use Rattle.text_entries.specs.declared.text_fault.TextFault.{TextFault}
 use Rattle.text_laws.specs.FactLines.{HasNoZero, HasNumbers}
 
@@ -29,17 +30,22 @@ pub record IsStored (r : Revocations) : Type 0 where
   pub sha1s : All IsBytes r.sha1s
   pub sha256s : All IsBytes r.sha256s
 
--- The text has no fault, and exactly these entries, in this order.
+-- The text has no fault, and exactly these entries, in this order, on each day.
 abbrev pub IsReadAs : List ℕ → List Entry → Type 0
-IsReadAs text entries = ((lines_of text).fault ≡ None) × ((lines_of text).entries ≡ entries)
+IsReadAs text entries =
+    (today : ℕ) → ((lines_of today text).fault ≡ None) × ((lines_of today text).entries ≡ entries)
 
--- The text is read, and changes what is held from the old to the new.
+-- The text is read on some day, and changes what is held from the old to the new.
 abbrev pub IsReadInto : List ℕ → (old new : Revocations) → Type 0
-IsReadInto text old new = (names : NamedKeys) × ReadsText [] text (Ok names) old new
+IsReadInto text old new =
+    (today : ℕ) × (after : Standing)
+    × ReadsText {A = Unit {0}} text (Ok tt) (first_standing today) after old new
 
--- Reading the text stops with the fault.
+-- Reading the text stops with the fault, on some day.
 abbrev pub StopsWith : List ℕ → TextFault → (old new : Revocations) → Type 0
-StopsWith text fault old new = ReadsText [] text (Err fault) old new
+StopsWith text fault old new =
+    (today : ℕ) × (after : Standing)
+    × ReadsText {A = Unit {0}} text (Err fault) (first_standing today) after old new
 
 -- ---- lists that are shown
 

@@ -1,7 +1,8 @@
 //! Laws of the texts of lists. Each function does nothing: its contract is the law.
 
-ghost use Rattle.std.specs.Prelude.{◌≡◌, ℕ, Bool, List, [], ◌∷◌, ◌++◌, map, All, IsPermutation};
-ghost use Rattle.std.specs.Prelude.{Option, None, Some, true};
+ghost use Rattle.std.specs.Prelude.{◌≡◌, ◌≤◌, ℕ, Bool, List, [], ◌∷◌, ◌++◌, map, All};
+ghost use Rattle.std.specs.Prelude.{IsPermutation};
+ghost use Rattle.std.specs.Prelude.{Option, None, Some, false, true};
 ghost use Rattle.std.specs.Borrow.{Bor};
 ghost use Rattle.std.specs.Io.KnownBytes.{Appends};
 ghost use Rattle.std.specs.List.{slice_split};
@@ -10,7 +11,7 @@ ghost use Rattle.krl_spec.specs.Blanks.{bare_line};
 ghost use Rattle.krl_spec.specs.Directive.{order as spec_order, order_in as spec_order_in};
 ghost use Rattle.krl_spec.specs.Entries.{line_entry, order_entry};
 ghost use Rattle.krl_spec.specs.declared.directive.Directive.{Directive};
-ghost use Rattle.text_entries.specs.AuthorityNames.{NamedKeys};
+ghost use Rattle.text_entries.specs.Day.{has_day_in_comment, until_in};
 ghost use Rattle.text_entries.specs.Lines.{lines_of, lines_with};
 ghost use Rattle.text_entries.specs.declared.standing.Standing.{Standing};
 ghost use Rattle.text_entries.specs.declared.text_fault.TextFault.{TextFault};
@@ -32,7 +33,8 @@ ghost use Rattle.text_laws.specs.ReadBack.{IsReadInto, IsStored, Shown};
 ghost use Rattle.text_laws.specs.ReadBack.{StopsWith, entries_of_lists, text_of_lists};
 ghost use Rattle.text_laws.specs.SpecLines.{IsBareAlike, IsReadAlike, bare_says, spec_says};
 ghost use Rattle.text_laws.specs.Joined.{AreWholeLines, LacksNoAuthority, later_by, lines_in};
-ghost use Rattle.text_laws.specs.Joined.{names_after};
+ghost use Rattle.text_laws.specs.Joined.{behind};
+ghost use Rattle.text_laws.specs.Days.{MayEnd, StandsSame, on_day};
 ghost use Rattle.krl_writer.specs.KrlText.{IsKrlText};
 ghost use Rattle.list_text.specs.declared.form.Form.TheVariants.{Text as AsText};
 ghost use Rattle.run_faults.specs.RunFault.{RunFault as RunFaultOf};
@@ -51,47 +53,68 @@ use plain_list::laws::line_read_as_spelled;
 /// first gives to authorities. A text that is read without a fault lacks no authority. Nothing is
 /// read after a fault of the first.
 pub fn texts_join()
-    ensures entries { (names : NamedKeys) (front back : List ℕ) → AreWholeLines front
-        → (lines_with names front).fault ≡ None
-        → LacksNoAuthority (names_after names front) back
-        → (lines_with names (front ++ back)).entries
-        ≡ (lines_with names front).entries ++ (lines_with (names_after names front) back).entries }
-    ensures fault { (names : NamedKeys) (front back : List ℕ) → AreWholeLines front
-        → (lines_with names front).fault ≡ None
-        → LacksNoAuthority (names_after names front) back
-        → (lines_with names (front ++ back)).fault
-        ≡ later_by (lines_in front) (lines_with (names_after names front) back).fault }
-    ensures stops { (names : NamedKeys) (front back : List ℕ) (fault : TextFault)
-        → AreWholeLines front → (lines_with names front).fault ≡ Some fault
-        → lines_with names (front ++ back) ≡ lines_with names front }
+    ensures entries { (standing : Standing) (front back : List ℕ) → AreWholeLines front
+        → (lines_with standing front).fault ≡ None
+        → LacksNoAuthority (behind standing front) back
+        → (lines_with standing (front ++ back)).entries
+        ≡ (lines_with standing front).entries
+        ++ (lines_with (behind standing front) back).entries }
+    ensures fault { (standing : Standing) (front back : List ℕ) → AreWholeLines front
+        → (lines_with standing front).fault ≡ None
+        → LacksNoAuthority (behind standing front) back
+        → (lines_with standing (front ++ back)).fault
+        ≡ later_by (lines_in front) (lines_with (behind standing front) back).fault }
+    ensures stops { (standing : Standing) (front back : List ℕ) (fault : TextFault)
+        → AreWholeLines front → (lines_with standing front).fault ≡ Some fault
+        → lines_with standing (front ++ back) ≡ lines_with standing front }
 {}
 
 /// Lines that have the names of their authorities, or need none, name the same in any order below
 /// the lines that give these names.
 pub fn lines_stand_in_any_order()
-    ensures faultless { (names : NamedKeys) (text other : List ℕ)
+    ensures faultless { (standing : Standing) (text other : List ℕ)
         → IsPermutation (slice_split is_newline text) (slice_split is_newline other)
-        → All (IsFree names) (slice_split is_newline text)
-        → ((lines_with names text).fault ≡ None) × ((lines_with names other).fault ≡ None) }
-    ensures same { (names : NamedKeys) (text other : List ℕ)
+        → All (IsFree standing) (slice_split is_newline text)
+        → ((lines_with standing text).fault ≡ None)
+        × ((lines_with standing other).fault ≡ None) }
+    ensures same { (standing : Standing) (text other : List ℕ)
         → IsPermutation (slice_split is_newline text) (slice_split is_newline other)
-        → All (IsFree names) (slice_split is_newline text)
-        → NamesSame (lines_with names text).entries (lines_with names other).entries }
+        → All (IsFree standing) (slice_split is_newline text)
+        → NamesSame (lines_with standing text).entries (lines_with standing other).entries }
+{}
+
+/// The day decides nothing but whether a line with a last day names. A text has the same fault on
+/// each day, and the same stands behind it but for the day, and how many lines are over. A line
+/// names on a day at most what it names on an earlier one, and a line without a last day names the
+/// same on each.
+pub fn day_decides_nothing_else()
+    ensures fault { (standing : Standing) (today : ℕ) (text : List ℕ)
+        → (lines_with (on_day today standing) text).fault ≡ (lines_with standing text).fault }
+    ensures stands { (standing : Standing) (today : ℕ) (text : List ℕ)
+        → StandsSame (lines_with (on_day today standing) text).standing
+        (lines_with standing text).standing }
+    ensures endless { (standing : Standing) (today : ℕ) (line : List ℕ)
+        → until_in (bare_line line) ≡ None
+        → line_says (on_day today standing) line ≡ line_says standing line }
+    ensures ends { (standing : Standing) (today : ℕ) (line : List ℕ) → standing.today ≤ today
+        → MayEnd (line_says standing line) (line_says (on_day today standing) line) }
 {}
 
 /// A line of a specification file names the same in a text, under the same authority: one with a
 /// directive, but for a serial number with a leading zero, a key ID that is cut short, has a
 /// control character, begins as a key, is between quotes or looks like several, a SHA-1 and a key
 /// with anything before it; and one without a word of texts that is empty or begins with the type
-/// name of a key, but for a certificate that is named by a key ID with a zero byte.
+/// name of a key, but for a certificate that is named by a key ID with a zero byte. No comment of
+/// these lines has a last day.
 pub fn spec_lines_say_the_same()
     ensures directives { (standing : Standing) (line given : List ℕ) (directive : Directive)
         → spec_order_in (bare_line line) ≡ Some (spec_order given directive)
-        → IsReadAlike line directive given
+        → IsReadAlike line directive given → has_day_in_comment line ≡ false
         → line_says standing line
         ≡ spec_says directive (order_entry standing.current directive given) }
     ensures keys { (standing : Standing) (line : List ℕ)
         → order_in (bare_line line) ≡ None → IsBareAlike (bare_line line)
+        → has_day_in_comment line ≡ false
         → line_says standing line ≡ bare_says (line_entry standing.current line) }
 {}
 
@@ -107,7 +130,8 @@ pub fn fact_reads_back()
 /// was held, and can stop only because an allocation fails.
 pub fn text_reads_back()
     ensures read { (r : Revocations) → IsStored r → IsReadAs (text_of r) (entries_in r) }
-    ensures means { (r : Revocations) → IsStored r → Means r (lines_of (text_of r)).entries }
+    ensures means { (r : Revocations) (today : ℕ) → IsStored r
+        → Means r (lines_of today (text_of r)).entries }
     ensures same { (r held : Revocations) → IsStored r → IsReadInto (text_of r) nothing held
         → held ≡ r }
     ensures stops { (r old new : Revocations) (fault : TextFault) → IsStored r
@@ -127,11 +151,11 @@ pub fn shown_list_names_the_same()
     ensures shown { (list : Shown) (bytes : List ℕ) (entries : List Entry) → IsBytes bytes
         → Names bytes list.header entries → Means list.contents entries
         → HasNoZeroIds list.contents → CanBeShown list }
-    ensures names { (list : Shown) (bytes : List ℕ) (entries : List Entry) → IsBytes bytes
-        → Names bytes list.header entries → Means list.contents entries
+    ensures names { (list : Shown) (bytes : List ℕ) (entries : List Entry) (today : ℕ)
+        → IsBytes bytes → Names bytes list.header entries → Means list.contents entries
         → HasNoZeroIds list.contents
-        → ((lines_of (text_of_lists (list ∷ []))).fault ≡ None)
-        × NamesSame entries (lines_of (text_of_lists (list ∷ []))).entries }
+        → ((lines_of today (text_of_lists (list ∷ []))).fault ≡ None)
+        × NamesSame entries (lines_of today (text_of_lists (list ∷ []))).entries }
 {
     line_read_as_spelled();
 }

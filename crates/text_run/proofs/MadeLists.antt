@@ -6,23 +6,21 @@ use Rattle.krl_types.specs.declared.krl_fault.KrlFault.{KrlFault}
 use Rattle.list_making.specs.Target.{Old}
 use Rattle.text_run.specs.Base.{IsReadOver, Krl, base_in, empty, new_base, takes_contents, unknown}
 use Rattle.text_run.specs.Fault.{MakeFault}
-use Rattle.text_run.specs.Making.{AddsTexts, HoldsMore, texts_entries}
-use Rattle.text_run.specs.Over.{IsEnough, IsHeld, IsMadeOver, IsMerged, IsRefused, IsTooLittle, MakesOver, too_little}
+use Rattle.text_run.specs.Making.{AddsTexts, HoldsMore, day_at}
+use Rattle.text_run.specs.Over.{IsEnough, IsHeld, IsMadeOver, IsMerged, IsRefused, IsTooLittle, MakesOver, entries_asked, too_little}
 use Rattle.text_run.specs.declared.base.Base.{Base}
 use Rattle.text_run.specs.declared.inputs.Inputs.{Inputs}
 use Rattle.text_run.specs.declared.inputs.Over.{Over}
 use Rattle.text_run.specs.declared.inputs.Over.TheVariants.{Nothing, Version, Contents}
 use Rattle.text_run.specs.declared.listed.Merged.{Merged}
 
-abbrev fine : Result (Unit {0}) MakeFault
-fine = Ok tt
+pub texts_held : (inputs : Inputs) (listed : Revocations) (over : ℕ) → AddsTexts (day_at inputs.date) inputs.texts.now (Ok over) nothing listed
+    → IsEnough inputs listed → IsHeld inputs listed
+texts_held inputs listed over (entries, read, count, adds) enough = record { entries = entries; read = read; adds = adds; enough = enough }
 
-pub texts_held : (inputs : Inputs) (listed : Revocations) → AddsTexts inputs.texts.now fine nothing listed → IsEnough inputs listed → IsHeld inputs listed
-texts_held inputs listed (entries, read, adds) enough = record { entries = entries; read = read; adds = adds; enough = enough }
-
-pub texts_too_little : (inputs : Inputs) (listed : Revocations) (fault : MakeFault) → AddsTexts inputs.texts.now fine nothing listed → IsTooLittle inputs listed fault
-    → IsRefused inputs fault
-texts_too_little inputs listed fault (entries, read, adds) little = too_little entries listed read adds little
+pub texts_too_little : (inputs : Inputs) (listed : Revocations) (over : ℕ) (fault : MakeFault) → AddsTexts (day_at inputs.date) inputs.texts.now (Ok over) nothing listed
+    → IsTooLittle inputs listed fault → IsRefused inputs fault
+texts_too_little inputs listed over fault (entries, read, count, adds) little = too_little entries listed read adds little
 
 -- ---- over the old list
 
@@ -43,7 +41,7 @@ held_of Version given (Some before) base is (inr taken) = go taken.read taken.ou
 merged_adds : (inputs : Inputs) (listed : Revocations) (old : Old) (base : Base) (merged : Option Revocations) → IsHeld inputs listed
     → IsReadOver inputs.over inputs.version old (Ok base) → IsMerged inputs base.revocations merged
     → (inputs.allow_empty || takes_contents inputs.over ≡ false → unwrap_or merged listed ≢ nothing)
-    × ((entries : List Entry) × (texts_entries inputs.texts.now ≡ Ok entries) × HoldsMore base.revocations (unwrap_or merged listed) entries)
+    × ((entries : List Entry) × (entries_asked inputs ≡ Ok entries) × HoldsMore base.revocations (unwrap_or merged listed) entries)
 merged_adds inputs listed old base None held over is =
     (held.enough.some, (held.entries, held.read, subst (λ (r : Revocations). HoldsMore r listed held.entries) (sym (held_of inputs.over inputs.version old base is over)) held.adds))
 merged_adds inputs listed old base (Some merged) held over (is, adds) = (λ none. absurd (no_contents inputs.allow_empty (takes_contents inputs.over) is none), adds)

@@ -1,5 +1,5 @@
 -- A list that is made over the contents of the old one revokes what that revokes.
-use Rattle.std.proofs.Common.{◌≡◌, ◌<◌, ◌^◌, ℕ, true, List, ◌++◌, Option, Some, Result, Ok, Err, refl, sym, ap, ◌∙◌}
+use Rattle.std.proofs.Common.{◌≡◌, ◌<◌, ◌^◌, ℕ, true, List, ◌++◌, Option, Some, Result, Ok, Err, refl}
 use Rattle.std.proofs.Math.Logic.Iff as Iff
 use Rattle.krl_core.specs.Reading.{IsResultOf}
 use Rattle.krl_entries.proofs.RevokedTests.{revokes_meant}
@@ -12,8 +12,7 @@ use Rattle.krl_types.specs.Entry.{Entry}
 use Rattle.krl_types.specs.declared.krl_fault.KrlFault.{KrlFault}
 use Rattle.krl_writer.proofs.ReadBack.{written_spelled}
 use Rattle.text_run.specs.Base.{IsKrl, IsReadOver, Krl, base_in, takes_contents}
-use Rattle.text_run.specs.Making.{texts_entries}
-use Rattle.text_run.specs.Over.{MakesOver, RevokesSame, wanted_of}
+use Rattle.text_run.specs.Over.{MakesOver, RevokesSame, entries_asked, wanted_of}
 use Rattle.text_run.specs.declared.base.Base.{Base}
 use Rattle.text_run.specs.declared.inputs.Inputs.{Inputs}
 use Rattle.text_run.specs.declared.inputs.Over.{Over}
@@ -34,7 +33,7 @@ taken_from Contents given text base is over = go over.read over.is_read over.out
 pub update_kept : (inputs : Inputs) (text bytes : List ℕ) (header : Header) (sections : List SpelledSection) (version : ℕ) (contents lost : Revocations)
     → takes_contents inputs.over ≡ true → version < 2 ^ 64 → inputs.date < 2 ^ 64 → Spells text header sections
     → MakesOver inputs (Some (Some text)) bytes version contents lost
-    → (made : Header) × (entries : List Entry) × (texts_entries inputs.texts.now ≡ Ok entries) × RevokesSame made bytes (entries_of sections ++ entries)
+    → (made : Header) × (entries : List Entry) × (entries_asked inputs ≡ Ok entries) × RevokesSame made bytes (entries_of sections ++ entries)
 update_kept inputs text bytes header sections version contents lost is fits_version fits_date spelled over =
     let taken = taken_from inputs.over inputs.version text over.base is over.over in
     let list = taken.1.list in

@@ -1,15 +1,17 @@
 -- The kinds of lines that a text has (krl(1), THE TEXT OF A LIST).
-use Rattle.std.specs.Prelude.{◌≡◌, ◌⊎◌, ℕ, Bool, true, false, ◌&&◌, ◌||◌, not, nat_lt}
-use Rattle.std.specs.Prelude.{if◌then◌else◌, List, [], ◌∷◌, ◌++◌, length, codes, Some, is_some}
-use Rattle.std.specs.Prelude.{Result, Ok, Err}
-use Rattle.std.specs.List.{before_first, list_any, position_or_len, slice_split}
-use Rattle.std.specs.Str.{str_eq_ignore_ascii_case}
+use Rattle.std.specs.Prelude.{◌≡◌, ◌≢◌, ◌⊎◌, ℕ, Bool, true, false, not, if◌then◌else◌, List, []}
+use Rattle.std.specs.Prelude.{◌∷◌}
+use Rattle.std.specs.Prelude.{◌++◌, Some, Result, Ok, Err}
+use Rattle.std.specs.List.{list_any, slice_split}
 use Rattle.key_text.specs.Lines.{is_newline}
 use Rattle.krl_spec.specs.Blanks.{bare_line, is_hash}
-use Rattle.krl_spec.specs.Directive.{is_colon}
 use Rattle.run_faults.specs.declared.cause.Cause.{Cause}
-use Rattle.text_entries.specs.Mark.{mark_in, name_given, name_of_mark}
+use Rattle.text_entries.specs.Lines.{LineEntries}
+use Rattle.text_entries.specs.Mark.{name_given}
+use Rattle.text_entries.specs.Named.{named_in}
 use Rattle.text_entries.specs.Says.{Current, line_says}
+use Rattle.text_entries.specs.declared.named.Named.{Named}
+use Rattle.text_entries.specs.declared.named.Named.TheVariants.{Nothing, Authority}
 use Rattle.text_entries.specs.declared.standing.Standing.{Standing}
 use Rattle.text_run.specs.Making.{Text}
 use Rattle.text_run.specs.declared.content.Content.{Content}
@@ -17,31 +19,15 @@ use Rattle.text_run.specs.declared.content.Content.TheVariants.{Blank, Notes, En
 
 -- ---- a line
 
--- the word is that of an authority
-abbrev pub is_authority : List ℕ → Bool
-is_authority word =
-    str_eq_ignore_ascii_case word (codes "ca") || str_eq_ignore_ascii_case word (codes "ca-blob")
-
--- the content begins with the word of an authority
-abbrev pub has_authority_word : List ℕ → Bool
-has_authority_word content =
-    nat_lt (position_or_len is_colon content) (length content)
-    && is_authority (before_first is_colon content)
-
--- the content says which authority is current, or gives one a name
-abbrev pub names_authority : List ℕ → Bool
-names_authority content =
-    has_authority_word content || is_some (name_of_mark (mark_in content))
-
-abbrev pub unless_bare : (has_comment : Bool) → (content : List ℕ) → Content
-unless_bare has_comment [] = if has_comment then Notes else Blank
-unless_bare has_comment (byte ∷ bytes) =
-    if names_authority (byte ∷ bytes) then Notes else Entries
+abbrev pub named_content : (has_comment : Bool) → Named → Content
+named_content has_comment Nothing = if has_comment then Notes else Blank
+named_content has_comment Authority = Notes
+named_content has_comment named = Entries
 
 -- The kind of a line: nothing; a comment, or an authority; otherwise an entry, unless it has a
 -- fault.
 abbrev pub line_content : List ℕ → Content
-line_content line = unless_bare (list_any is_hash line) (bare_line line)
+line_content line = named_content (list_any is_hash line) (named_in (bare_line line))
 
 -- ---- lines
 
@@ -76,6 +62,10 @@ abbrev pub is_mute : Text → Bool
 is_mute text = is_mute_in text.is_file text.content
 
 -- ---- beside the entries of a text
+
+-- The lines have an entry, or one that is over.
+abbrev pub HasSome : LineEntries → Type 0
+HasSome lines = (lines.entries ≢ []) ⊎ (lines.standing.over ≢ 0)
 
 -- A line says which authority is current, or gives one a name.
 abbrev pub NamesAuthority : List ℕ → Type 0

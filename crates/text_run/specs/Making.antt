@@ -1,5 +1,5 @@
 -- Making a list of texts (krl(1), KRL MAKE).
-use Rattle.std.specs.Prelude.{◌≡◌, ◌≢◌, ℕ, Bool, false, ◌+◌, ◌≤◌, ◌<◌, ◌⊎◌}
+use Rattle.std.specs.Prelude.{◌≡◌, ◌≢◌, ℕ, Bool, false, ◌+◌, ◌/◌, ◌≤◌, ◌<◌, ◌⊎◌}
 use Rattle.std.specs.Prelude.{List, [], ◌∷◌, ◌++◌, length, Option, Some, None, Result, Ok, Err}
 use Rattle.ssh_wire.specs.Reading.{◌>>=◌, in_fault}
 use Rattle.run_faults.specs.declared.cause.Cause.{Cause}
@@ -13,8 +13,9 @@ use Rattle.krl_writer.specs.KrlText.{IsKrlText}
 use Rattle.list_text.specs.Counts.{counted_all, nothing_counted}
 use Rattle.list_text.specs.Facts.{facts_of}
 use Rattle.list_text.specs.declared.counts.Counts.{Counts}
-use Rattle.text_entries.specs.AuthorityNames.{NamedKeys}
 use Rattle.text_entries.specs.Lines.{LineEntries, lines_with}
+use Rattle.text_entries.specs.Says.{first_standing}
+use Rattle.text_entries.specs.declared.standing.Standing.{Standing}
 use Rattle.text_entries.specs.declared.text_fault.TextFault.{TextFault}
 use Rattle.text_run.specs.Fault.{MakeFault, line_fault, whole_fault}
 use Rattle.text_run.specs.declared.make_fault.MakeCause.{MakeCause}
@@ -28,66 +29,83 @@ pub record Text : Type 0 where
   pub is_file : Bool
   pub content : Result (List ℕ) Cause
 
--- the entries that are read, and the names of authorities that are known then
-pub record NamedEntries : Type 0 where
+-- the entries that are read, and what stands then
+pub record TextEntries : Type 0 where
   pub entries : List Entry
-  pub names : NamedKeys
+  pub standing : Standing
 
 abbrev pub unless_fault : (name bytes : List ℕ) → LineEntries → Option TextFault
-    → Result NamedEntries MakeFault
+    → Result TextEntries MakeFault
 unless_fault name bytes lines None =
-    Ok (record { entries = lines.entries; names = lines.standing.names })
+    Ok (record { entries = lines.entries; standing = lines.standing })
 unless_fault name bytes lines (Some fault) =
     Err (line_fault name bytes fault.line fault.cause)
 
--- what the bytes of a text with this name give where these names are known, or its first fault
-abbrev pub bytes_from : NamedKeys → (name bytes : List ℕ) → Result NamedEntries MakeFault
-bytes_from names name bytes =
-    unless_fault name bytes (lines_with names bytes) (lines_with names bytes).fault
+-- what the bytes of a text with this name give behind others, or its first fault
+abbrev pub bytes_from : Standing → (name bytes : List ℕ) → Result TextEntries MakeFault
+bytes_from standing name bytes =
+    unless_fault name bytes (lines_with standing bytes) (lines_with standing bytes).fault
 
 abbrev pub unread : List ℕ → Cause → MakeFault
 unread name cause = whole_fault name (Run cause)
 
-unfoldable pub text_from : NamedKeys → Text → Result NamedEntries MakeFault
-text_from names text = do
+unfoldable pub text_from : Standing → Text → Result TextEntries MakeFault
+text_from standing text = do
   bytes ← in_fault (unread text.name) text.content
-  bytes_from names text.name bytes
+  bytes_from standing text.name bytes
 
--- what is read, and then what is read where the names of that are known
-abbrev pub then_from : Result NamedEntries MakeFault → (NamedKeys → Result NamedEntries MakeFault)
-    → Result NamedEntries MakeFault
+-- what is read, and then what is read behind it
+abbrev pub then_from : Result TextEntries MakeFault → (Standing → Result TextEntries MakeFault)
+    → Result TextEntries MakeFault
 then_from first later = do
   read ← first
-  more ← later read.names
+  more ← later read.standing
   Ok (record more { entries = read.entries ++ more.entries })
 
 -- what texts give, or the first fault
-abbrev pub texts_from : NamedKeys → List Text → Result NamedEntries MakeFault
-texts_from names [] = Ok (record { entries = []; names = names })
-texts_from names (text ∷ texts) =
-    then_from (text_from names text) (λ after. texts_from after texts)
+abbrev pub texts_from : Standing → List Text → Result TextEntries MakeFault
+texts_from standing [] = Ok (record { entries = []; standing = standing })
+texts_from standing (text ∷ texts) =
+    then_from (text_from standing text) (λ after. texts_from after texts)
 
-abbrev pub only_entries : Result NamedEntries MakeFault → Result (List Entry) MakeFault
+-- The day of a moment, given in seconds since 1970, by its number from 1970-01-01 on.
+abbrev pub day_at : (seconds : ℕ) → ℕ
+day_at seconds = seconds / 86_400
+
+-- what all texts give on this day
+abbrev pub texts_on : (today : ℕ) → List Text → Result TextEntries MakeFault
+texts_on today texts = texts_from (first_standing today) texts
+
+abbrev pub only_entries : Result TextEntries MakeFault → Result (List Entry) MakeFault
 only_entries read = do
   given ← read
   Ok given.entries
 
+abbrev pub only_over : Result TextEntries MakeFault → Result ℕ MakeFault
+only_over read = do
+  given ← read
+  Ok given.standing.over
+
 -- The entries of all texts, or the first fault. A name that a text gives to an authority is known
 -- in all later ones, and in each text no authority is current at first.
-abbrev pub texts_entries : List Text → Result (List Entry) MakeFault
-texts_entries texts = only_entries (texts_from [] texts)
+abbrev pub texts_entries : (today : ℕ) → List Text → Result (List Entry) MakeFault
+texts_entries today texts = only_entries (texts_on today texts)
+
+-- how many lines of all texts had a last day that is over
+abbrev pub texts_over : (today : ℕ) → List Text → Result ℕ MakeFault
+texts_over today texts = only_over (texts_on today texts)
 
 -- ---- adding them
 
 -- An allocation failed at a text of this name: the texts before it have no fault.
-pub record LacksMemoryAt (texts : List Text) (name : List ℕ) : Type 0 where
+pub record LacksMemoryAt (today : ℕ) (texts : List Text) (name : List ℕ) : Type 0 where
   pub before : List Text
   pub text : Text
   pub after : List Text
   pub parts : texts ≡ before ++ text ∷ after
   pub named : name ≡ text.name
   pub entries : List Entry
-  pub faultless : texts_entries before ≡ Ok entries
+  pub faultless : texts_entries today before ≡ Ok entries
 
 -- The fault is the one that reading gives. Or an allocation failed, which is the fault of a text as
 -- a whole: it has a name at which that can be, and no line.
@@ -103,20 +121,22 @@ pub record HoldsMore (old new : Revocations) (entries : List Entry) : Type 0 whe
   pub held_is : held new ≤ held old + length entries
 
 -- the entries of a text with this name
-abbrev pub AddsText : (name : List ℕ) → Result NamedEntries MakeFault → Result NamedKeys MakeFault
-    → (old new : Revocations) → Type 0
-AddsText name read (Ok names) old new =
-    (given : NamedEntries) × (read ≡ Ok given) × (names ≡ given.names)
+abbrev pub AddsText : {A : Type 0} → (name : List ℕ) → Result TextEntries MakeFault
+    → Result A MakeFault → (after : Standing) → (old new : Revocations) → Type 0
+AddsText name read (Ok done) after old new =
+    (given : TextEntries) × (read ≡ Ok given) × (after ≡ given.standing)
     × HoldsMore old new given.entries
-AddsText name read (Err fault) old new = IsMakeFault (λ other. other ≡ name) fault.cause read fault
+AddsText name read (Err fault) after old new =
+    IsMakeFault (λ other. other ≡ name) fault.cause read fault
 
--- the entries of all texts
-abbrev pub AddsTexts : {A : Type 0} → List Text → Result A MakeFault → (old new : Revocations)
+-- the entries of all texts, and how many lines had a last day that is over
+abbrev pub AddsTexts : (today : ℕ) → List Text → Result ℕ MakeFault → (old new : Revocations)
     → Type 0
-AddsTexts texts (Ok done) old new =
-    (entries : List Entry) × (texts_entries texts ≡ Ok entries) × HoldsMore old new entries
-AddsTexts texts (Err fault) old new =
-    IsMakeFault (LacksMemoryAt texts) fault.cause (texts_entries texts) fault
+AddsTexts today texts (Ok over) old new =
+    (entries : List Entry) × (texts_entries today texts ≡ Ok entries)
+    × (texts_over today texts ≡ Ok over) × HoldsMore old new entries
+AddsTexts today texts (Err fault) old new =
+    IsMakeFault (LacksMemoryAt today texts) fault.cause (texts_entries today texts) fault
 
 -- ---- the list
 
@@ -130,12 +150,12 @@ pub record Wanted : Type 0 where
 abbrev pub counts_of : Revocations → Counts
 counts_of contents = counted_all nothing_counted (facts_of contents)
 
--- The texts have no fault, and the list names exactly their entries beside what was held. It names
--- something, unless it may be empty.
+-- The texts have no fault, and the list names exactly their entries on its date, beside what was
+-- held. It names something, unless it may be empty.
 pub record Makes (wanted : Wanted) (held : Revocations) (texts : List Text) (bytes : List ℕ)
     (contents : Revocations) : Type 0 where
   pub entries : List Entry
-  pub read : texts_entries texts ≡ Ok entries
+  pub read : texts_entries (day_at wanted.header.date) texts ≡ Ok entries
   pub some : wanted.allow_empty ≡ false → contents ≢ nothing
   pub adds : HoldsMore held contents entries
   pub written : IsKrlText wanted.header contents bytes

@@ -1,5 +1,5 @@
 -- Making a list of texts over what is under its name (krl(1), KRL MAKE).
-use Rattle.std.specs.Prelude.{◌≡◌, ◌≢◌, ◌↔◌, ℕ, ◌||◌, ◌≤◌, nat_lt, Bool, true, false}
+use Rattle.std.specs.Prelude.{◌≡◌, ◌≢◌, ◌↔◌, ℕ, ◌||◌, ◌≤◌, nat_lt, true, false}
 use Rattle.std.specs.Prelude.{if◌then◌else◌, List, length, Option, Some, None, unwrap_or}
 use Rattle.std.specs.Prelude.{Result, Ok, Err}
 use Rattle.std.specs.Borrow.{Bor}
@@ -24,7 +24,7 @@ use Rattle.text_run.specs.Base.{IsReadOver, IsUnread, is_read, takes_contents}
 use Rattle.text_run.specs.Content.{is_mute}
 use Rattle.text_run.specs.Fault.{MakeFault, whole_fault}
 use Rattle.text_run.specs.Making.{HoldsMore, IsMakeFault, IsWritten, LacksMemoryAt, Makes, Text}
-use Rattle.text_run.specs.Making.{Wanted, texts_entries}
+use Rattle.text_run.specs.Making.{Wanted, day_at, texts_entries, texts_over}
 use Rattle.text_run.specs.declared.base.Base.{Base}
 use Rattle.text_run.specs.declared.inputs.Inputs.{Inputs}
 use Rattle.text_run.specs.declared.listed.Merged.{Merged}
@@ -59,6 +59,20 @@ fault_of inputs cause = whole_fault inputs.name.now (Run cause)
 
 -- ---- the texts
 
+-- the entries of the texts on the date of the list
+abbrev pub entries_asked : Inputs → Result (List Entry) MakeFault
+entries_asked inputs = texts_entries (day_at inputs.date) inputs.texts.now
+
+-- how many of their lines had a last day that is over
+abbrev pub over_asked : Inputs → Result ℕ MakeFault
+over_asked inputs = texts_over (day_at inputs.date) inputs.texts.now
+
+-- The texts have this fault first, or an allocation failed at one of them.
+abbrev pub IsUnadded : Inputs → MakeFault → Type 0
+IsUnadded inputs fault =
+    IsMakeFault (LacksMemoryAt (day_at inputs.date) inputs.texts.now) fault.cause
+    (entries_asked inputs) fault
+
 -- Each text has an entry or needs none, and one has an entry, unless nothing may be there.
 pub record IsEnough (inputs : Inputs) (contents : Revocations) : Type 0 where
   pub each : inputs.allow_empty ≡ false → find is_mute inputs.texts.now ≡ None
@@ -67,7 +81,7 @@ pub record IsEnough (inputs : Inputs) (contents : Revocations) : Type 0 where
 -- The texts have no fault, and this is what they name, which is enough.
 pub record IsHeld (inputs : Inputs) (contents : Revocations) : Type 0 where
   pub entries : List Entry
-  pub read : texts_entries inputs.texts.now ≡ Ok entries
+  pub read : entries_asked inputs ≡ Ok entries
   pub adds : HoldsMore nothing contents entries
   pub enough : IsEnough inputs contents
 
@@ -81,11 +95,9 @@ pub data IsTooLittle (inputs : Inputs) (contents : Revocations) (fault : MakeFau
 -- Why texts are refused: the first fault, or an allocation failed at a text; or one has no entry,
 -- or none has one.
 pub data IsRefused (inputs : Inputs) (fault : MakeFault) : Type 0 where
-  faulty : IsMakeFault (LacksMemoryAt inputs.texts.now) fault.cause
-      (texts_entries inputs.texts.now) fault
-      → IsRefused inputs fault
+  faulty : IsUnadded inputs fault → IsRefused inputs fault
   too_little : (entries : List Entry) → (contents : Revocations)
-      → texts_entries inputs.texts.now ≡ Ok entries → HoldsMore nothing contents entries
+      → entries_asked inputs ≡ Ok entries → HoldsMore nothing contents entries
       → IsTooLittle inputs contents fault → IsRefused inputs fault
 
 -- ---- the version
@@ -104,7 +116,7 @@ abbrev pub IsMerged : Inputs → (taken : Revocations) → Option Revocations �
 IsMerged inputs taken None = takes_contents inputs.over ≡ false
 IsMerged inputs taken (Some merged) =
     (takes_contents inputs.over ≡ true)
-    × ((entries : List Entry) × (texts_entries inputs.texts.now ≡ Ok entries)
+    × ((entries : List Entry) × (entries_asked inputs ≡ Ok entries)
     × HoldsMore taken merged entries)
 
 -- The bytes are the list of what is held of the texts and taken over from the old list.
@@ -130,9 +142,7 @@ pub data Refuses (inputs : Inputs) (listed : Revocations) (old : Old) (fault : M
       → IsReadOver inputs.over inputs.version old (Ok base)
       → version_over inputs.version base.version ≡ Err cause
       → fault ≡ whole_fault inputs.name.now cause → Refuses inputs listed old fault
-  unmerged : IsMakeFault (LacksMemoryAt inputs.texts.now) fault.cause
-      (texts_entries inputs.texts.now) fault
-      → Refuses inputs listed old fault
+  unmerged : IsUnadded inputs fault → Refuses inputs listed old fault
   unwritten : (base : Base) (version : ℕ) (merged : Option Revocations)
       → IsReadOver inputs.over inputs.version old (Ok base)
       → version_over inputs.version base.version ≡ Ok version

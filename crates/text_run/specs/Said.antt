@@ -32,8 +32,16 @@ lost_part lost =
     else codes "; " ++ (words (amounts (record lost { authorities = 0 }))
     ++ ((if names_in lost == 1 then codes " is" else codes " are") ++ codes " no longer revoked"))
 
-abbrev pub made_line : List ℕ → ℕ → (named lost : Counts) → List ℕ
-made_line name version named lost =
+-- that entries are over, if there are any
+abbrev pub over_part : ℕ → List ℕ
+over_part over =
+    if over == 0 then []
+    else codes "; " ++ (if over == 1 then codes "1 entry is over"
+    else decimal over ++ codes " entries are over")
+
+abbrev pub made_line : List ℕ → ℕ → (named lost : Counts) → (over : ℕ) → List ℕ
+made_line name version named lost over =
     codes "krl make: " ++ (visible false name
     ++ (codes ": version " ++ (decimal version
-    ++ (codes ": " ++ (words (amounts named) ++ (lost_part lost ++ codes "\n"))))))
+    ++ (codes ": " ++ (words (amounts named)
+    ++ (lost_part lost ++ (over_part over ++ codes "\n")))))))

@@ -27,7 +27,8 @@ spec_words specs.Number = codes "a serial number is a number below 2^64"
 spec_words specs.Zero = codes "serial number 0 names no certificate"
 spec_words specs.Reversed = codes "a range of serial numbers ends below its first one"
 spec_words specs.NoAuthority =
-    codes "no ca: line counts here: none is before it, or a key or a hash is between"
+    codes "no CA is given: by @NAME before the word, or by a ca: line with no key or hash "
+    ++ codes "between"
 spec_words specs.EmptyId = codes "a key ID is empty"
 spec_words (specs.Key cause) = cause_words (runs.Key cause)
 spec_words (specs.Fingerprint fault) = codes "the hash is cut, padded or misspelt"
@@ -62,11 +63,17 @@ text_words texts.OtherKey = codes "the name has another key"
 text_words texts.UnknownName = codes "no CA has this name above"
 text_words texts.MarkedWord =
     codes "behind @NAME comes a colon and a key, or serial:, id: or id-hex:"
+text_words texts.BadDate = codes "until needs a day, as YYYY-MM-DD"
+text_words texts.NoLastDay =
+    codes "only a serial number, a key ID or a certificate has a last day"
+text_words texts.DateInComment =
+    codes "a day in a comment ends nothing: begin the line with until YYYY-MM-DD"
 
 abbrev pub make_words : MakeCause → List ℕ
 make_words (Run cause) = cause_words cause
 make_words (Line cause) = text_words cause
-make_words Empty = codes "no text has an entry, and the list would revoke nobody"
+make_words Empty =
+    codes "the list would revoke nobody: no text has an entry, or each is over"
 make_words NoEntry = codes "it has no entry, which --allow-empty allows"
 make_words OldVersion = codes "the list there has this version or a later one"
 
@@ -118,6 +125,10 @@ hint_words cause all hints.KeyFile = codes "the key itself stands here, not its 
 hint_words cause all hints.ByteOrderMark = codes "the file begins with a byte order mark"
 hint_words cause all hints.Hexadecimal = codes "hexadecimal digits need 0x before them"
 hint_words cause all (hints.Name name) = name_words cause all name
+hint_words cause all hints.ColonBehindName =
+    codes "behind @NAME and a colon comes a key: an entry has no colon there"
+hint_words cause all hints.LastDay =
+    codes "a last day comes first on a line: until YYYY-MM-DD"
 
 -- why no list is made, or what the line may be meant as
 abbrev pub why_words : List Text → Option Hint → MakeCause → List ℕ

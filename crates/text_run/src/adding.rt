@@ -8,37 +8,39 @@ use crate::text::Text;
 use krl_entries::Revocations;
 use serial_set::Spans;
 use std::alloc::Global;
-use text_entries::{AuthorityNames, read_text};
+use text_entries::{Standing, read_text};
 
-/// Adds the entries of each text, up to the first fault. The name that a text gives to an authority
-/// is known in those after it.
+/// Adds the entries of each text, up to the first fault, and returns how many lines had a last day
+/// that is over. The name that a text gives to an authority is known in those after it. Today is
+/// given by its number from 1970-01-01 on.
 pub(crate) fn add_texts<'a, S: Spans>(
     alloc: Global,
     revocations: &mut Revocations<S>,
+    today: u64,
     texts: &'a [Text<'a>],
-) -> Result<(), MakeFault<'a>>
-    ensures { AddsTexts texts.now result revocations.old revocations.new }
+) -> Result<u64, MakeFault<'a>>
+    ensures { AddsTexts today texts.now result revocations.old revocations.new }
 {
-    let mut names = AuthorityNames::new(alloc);
+    let mut standing = Standing::new(alloc, today);
     for text in texts {
-        names = add_text(alloc, revocations, names, text)?;
+        add_text(alloc, revocations, &mut standing, text)?;
     }
-    Ok(())
+    Ok(standing.over())
 }
 
-// Adds the entries of a text where these names are known, and returns those that are known then.
+// Adds the entries of a text behind others.
 #[tactic(auto, unfolding(crate::specs::Making::text_from))]
 fn add_text<'a, S: Spans>(
     alloc: Global,
     revocations: &mut Revocations<S>,
-    names: AuthorityNames,
+    standing: &mut Standing,
     text: &'a Text<'a>,
-) -> Result<AuthorityNames, MakeFault<'a>>
-    ensures { AddsText text.now.name (text_from names text.now) result
+) -> Result<(), MakeFault<'a>>
+    ensures { AddsText text.now.name (text_from standing.old text.now) result standing.new
         revocations.old revocations.new }
 {
     match &text.content {
-        Ok(bytes) => add_bytes(alloc, revocations, names, text.name, bytes.as_slice()),
+        Ok(bytes) => add_bytes(alloc, revocations, standing, text.name, bytes.as_slice()),
         Err(cause) => Err(MakeFault::whole(text.name, MakeCause::Run(*cause))),
     }
 }
@@ -47,15 +49,15 @@ fn add_text<'a, S: Spans>(
 fn add_bytes<'a, S: Spans>(
     alloc: Global,
     revocations: &mut Revocations<S>,
-    names: AuthorityNames,
+    standing: &mut Standing,
     name: &'a str,
     bytes: &'a [u8],
-) -> Result<AuthorityNames, MakeFault<'a>>
-    ensures { AddsText name.now (bytes_from names name.now bytes.now) result
+) -> Result<(), MakeFault<'a>>
+    ensures { AddsText name.now (bytes_from standing.old name.now bytes.now) result standing.new
         revocations.old revocations.new }
 {
-    match read_text(alloc, revocations, names, bytes) {
-        Ok(names) => Ok(names),
+    match read_text(alloc, revocations, standing, bytes) {
+        Ok(()) => Ok(()),
         Err(fault) => Err(line_fault(name, bytes, fault)),
     }
 }

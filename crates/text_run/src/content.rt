@@ -3,13 +3,12 @@
 ghost use Rattle.std.specs.Prelude.{◌≡◌, MatchOption, None, Some};
 ghost use Rattle.std.specs.List.{find, list_any};
 ghost use Rattle.krl_spec.specs.Blanks.{is_hash};
-ghost use Rattle.text_run.specs.Content.{content_of, has_authority_word, is_mute, line_content};
-ghost use Rattle.text_run.specs.Content.{more};
+ghost use Rattle.text_run.specs.Content.{content_of, is_mute, line_content, more};
 
 use crate::text::Text;
 use key_text::split_line;
-use krl_spec::{bare_line, position_of};
-use text_entries::name_given;
+use krl_spec::bare_line;
+use text_entries::{Named, named_in};
 
 /// The kinds of lines that there are.
 #[derive(Clone, Copy)]
@@ -87,17 +86,11 @@ fn content_of(text: &[u8]) -> Content
 fn line_content(line: &[u8]) -> Content
     ensures { result ≡ line_content line.now }
 {
-    let content = bare_line(line);
-    if content.is_empty() {
-        if has_hash(line) {
-            Content::Notes
-        } else {
-            Content::Blank
-        }
-    } else if has_authority_word(content) || name_given(line).is_some() {
-        Content::Notes
-    } else {
-        Content::Entries
+    match named_in(bare_line(line)) {
+        Named::Nothing if has_hash(line) => Content::Notes,
+        Named::Nothing => Content::Blank,
+        Named::Authority => Content::Notes,
+        Named::Key | Named::Certificate => Content::Entries,
     }
 }
 
@@ -106,16 +99,4 @@ fn has_hash(line: &[u8]) -> bool
     ensures { result ≡ list_any is_hash line.now }
 {
     line.iter().any(|byte| *byte == b'#')
-}
-
-// Whether content begins with the word of an authority.
-fn has_authority_word(content: &[u8]) -> bool
-    ensures { result ≡ has_authority_word content.now }
-{
-    let colon = position_of(content, b':');
-    if colon == content.len() {
-        return false;
-    }
-    let word = &content[..colon];
-    word.eq_ignore_ascii_case(b"ca") || word.eq_ignore_ascii_case(b"ca-blob")
 }

@@ -1,6 +1,12 @@
 //! The list that is asked for.
 
+ghost use Rattle.std.specs.Prelude.{◌≡◌};
+ghost use Rattle.text_run.specs.Making.{day_at};
+
 use crate::text::Text;
+
+// The seconds of a day.
+const DAY: u64 = 86_400;
 
 /// How a list that is made follows the one under its name.
 #[derive(Clone, Copy, PartialEq, Eq)]
@@ -30,4 +36,13 @@ pub struct Inputs<'a> {
     pub allow_empty: bool,
     /// The texts.
     pub texts: &'a [Text<'a>],
+}
+
+impl<'a> Inputs<'a> {
+    // The day of its date, by its number from 1970-01-01 on.
+    pub(crate) fn day(&self) -> u64
+        ensures { result ≡ day_at self.now.date }
+    {
+        self.date / DAY
+    }
 }

@@ -1,9 +1,9 @@
 //! A list that is made of texts, over the list under its name.
 
-ghost use Rattle.std.specs.Prelude.{◌≡◌, IfErr, IfOk, MatchOption, unwrap_or};
-ghost use Rattle.text_run.specs.Making.{IsMakeFault, IsWritten, LacksMemoryAt, texts_entries};
+ghost use Rattle.std.specs.Prelude.{◌≡◌, IfErr, IfOk, MatchOption, Ok, unwrap_or};
+ghost use Rattle.text_run.specs.Making.{IsWritten};
 ghost use Rattle.text_run.specs.Over.{IsEnough, IsHeld, IsMerged, IsRefused, IsTooLittle};
-ghost use Rattle.text_run.specs.Over.{version_over, wanted_over};
+ghost use Rattle.text_run.specs.Over.{IsUnadded, over_asked, version_over, wanted_over};
 
 use crate::adding::add_texts;
 use crate::base::read_base;
@@ -32,6 +32,8 @@ pub struct Facts {
     pub revocations: Revocations<Held>,
     /// The revocations that only the list before it has.
     pub lost: Revocations<Held>,
+    /// How many lines of the texts had a last day that is over.
+    pub over: u64,
 }
 
 /// The outcome of making texts into a list: the version, and what is held of the old list and the
@@ -53,6 +55,8 @@ pub struct Listed<'a> {
     pub inputs: &'a Inputs<'a>,
     /// The revocations that its texts name.
     pub revocations: Revocations<Held>,
+    /// How many lines of its texts had a last day that is over.
+    pub over: u64,
 }
 
 /// The revocations that texts name, or their first fault. A text without an entry is a fault too,
@@ -60,15 +64,17 @@ pub struct Listed<'a> {
 pub fn read_texts<'a>(alloc: Global, inputs: &'a Inputs<'a>) -> Result<Listed<'a>, MakeFault<'a>>
     ensures same { IfOk result (λ list. list.inputs.now ≡ inputs.now) }
     ensures read { IfOk result (λ list. IsHeld inputs.now list.revocations) }
+    ensures over { IfOk result (λ list. over_asked inputs.now ≡ Ok list.over) }
     ensures refused { IfErr result (IsRefused inputs.now) }
 {
     let mut revocations: Revocations<Held> = Revocations::new(alloc);
-    add_texts(alloc, &mut revocations, inputs.texts)?;
+    let over = add_texts(alloc, &mut revocations, inputs.day(), inputs.texts)?;
     match why_refused(inputs, &revocations) {
         Some(fault) => Err(fault),
         None => Ok(Listed {
             inputs,
             revocations,
+            over,
         }),
     }
 }
@@ -128,16 +134,14 @@ impl<'a> Listed<'a> {
         taken: Revocations<Held>,
     ) -> Result<Option<Revocations<Held>>, MakeFault<'a>>
         ensures merged { IfOk result (IsMerged self.now.inputs.now taken) }
-        ensures refused { IfErr result (λ fault. IsMakeFault
-            (LacksMemoryAt self.now.inputs.now.texts.now) fault.cause
-            (texts_entries self.now.inputs.now.texts.now) fault) }
+        ensures refused { IfErr result (IsUnadded self.now.inputs.now) }
     {
         let Over::Contents = self.inputs.over else {
             return Ok(None);
         };
         let mut merged = taken;
-        match add_texts(alloc, &mut merged, self.inputs.texts) {
-            Ok(()) => Ok(Some(merged)),
+        match add_texts(alloc, &mut merged, self.inputs.day(), self.inputs.texts) {
+            Ok(_) => Ok(Some(merged)),
             Err(fault) => Err(fault),
         }
     }

@@ -3,7 +3,8 @@
 ghost use Rattle.std.specs.Prelude.{◌≡◌, IfOk};
 ghost use Rattle.run_faults.specs.RunFault.{line_part};
 ghost use Rattle.text_run.specs.Words.{fault_line, hint_words, make_words, meant_words};
-ghost use Rattle.text_run.specs.Words.{other_words, spec_words, text_words, unknown_words, why_words};
+ghost use Rattle.text_run.specs.Words.{other_words, spec_words, text_words, unknown_words};
+ghost use Rattle.text_run.specs.Words.{why_words};
 
 use crate::make_fault::{MakeCause, MakeFault};
 use crate::naming::{can_be_meant, naming_in, naming_meant};
@@ -38,8 +39,20 @@ const UNKNOWN_NAME: &[u8] = b"no CA has this name above";
 
 const MARKED_WORD: &[u8] = b"behind @NAME comes a colon and a key, or serial:, id: or id-hex:";
 
-const NO_AUTHORITY: &[u8] = b"no ca: line counts here: none is before it, or a key or a hash is \
-between";
+const NO_AUTHORITY: &[u8] = b"no CA is given: by @NAME before the word, or by a ca: line with no \
+key or hash between";
+
+const NO_LAST_DAY: &[u8] = b"only a serial number, a key ID or a certificate has a last day";
+
+const DATE_IN_COMMENT: &[u8] = b"a day in a comment ends nothing: begin the line with until \
+YYYY-MM-DD";
+
+const COLON_BEHIND_NAME: &[u8] = b"behind @NAME and a colon comes a key: an entry has no colon \
+there";
+
+const LAST_DAY: &[u8] = b"a last day comes first on a line: until YYYY-MM-DD";
+
+const EMPTY: &[u8] = b"the list would revoke nobody: no text has an entry, or each is over";
 
 // The number of a line, if there is one.
 #[derive(Clone, Copy)]
@@ -103,6 +116,8 @@ fn hint_words<'a>(
         Hint::KeyFile => Vec::from_slice(alloc, b"the key itself stands here, not its file"),
         Hint::ByteOrderMark => Vec::from_slice(alloc, b"the file begins with a byte order mark"),
         Hint::Hexadecimal => Vec::from_slice(alloc, b"hexadecimal digits need 0x before them"),
+        Hint::ColonBehindName => Vec::from_slice(alloc, COLON_BEHIND_NAME),
+        Hint::LastDay => Vec::from_slice(alloc, LAST_DAY),
         Hint::Name(line) => {
             if cause == MakeCause::Line(TextCause::OtherKey) {
                 other_words(alloc, line.name, texts)
@@ -165,7 +180,7 @@ fn make_words(cause: MakeCause) -> &'static [u8]
     match cause {
         MakeCause::Run(cause) => cause_words(cause),
         MakeCause::Line(cause) => text_words(cause),
-        MakeCause::Empty => b"no text has an entry, and the list would revoke nobody",
+        MakeCause::Empty => EMPTY,
         MakeCause::NoEntry => b"it has no entry, which --allow-empty allows",
         MakeCause::OldVersion => b"the list there has this version or a later one",
     }
@@ -193,6 +208,9 @@ fn text_words(cause: TextCause) -> &'static [u8]
         TextCause::OtherKey => OTHER_KEY,
         TextCause::UnknownName => UNKNOWN_NAME,
         TextCause::MarkedWord => MARKED_WORD,
+        TextCause::BadDate => b"until needs a day, as YYYY-MM-DD",
+        TextCause::NoLastDay => NO_LAST_DAY,
+        TextCause::DateInComment => DATE_IN_COMMENT,
     }
 }
 

@@ -1,10 +1,10 @@
 //! Making a list of texts under a name, as one run.
 
-ghost use Rattle.std.specs.Prelude.{◌≡◌, IfErr, IfOk, false, option_map, unwrap_or};
+ghost use Rattle.std.specs.Prelude.{◌≡◌, IfErr, IfOk, Ok, false, option_map, unwrap_or};
 ghost use Rattle.std.specs.Option.{ForSome};
 ghost use Rattle.list_making.specs.Making.{IsPut, IsUntouched};
 ghost use Rattle.text_run.specs.Base.{is_read};
-ghost use Rattle.text_run.specs.Over.{MakesOver, WhyUnmade, fault_of};
+ghost use Rattle.text_run.specs.Over.{MakesOver, WhyUnmade, fault_of, over_asked};
 
 use crate::inputs::Inputs;
 use crate::listed::{Facts, Merged, read_texts};
@@ -22,31 +22,35 @@ pub fn list_over<'a, R: Source + Drop>(
     old: Option<R>,
 ) -> Result<Made<Facts>, MakeFault<'a>>
     requires { ForSome old (λ reader. R.has_failed reader ≡ false) }
-    ensures { IfOk result (λ made. MakesOver inputs.now (option_map R.left old) made.bytes.items
-        made.facts.version made.facts.revocations made.facts.lost) }
+    ensures made { IfOk result (λ made. MakesOver inputs.now (option_map R.left old)
+        made.bytes.items made.facts.version made.facts.revocations made.facts.lost) }
+    ensures over { IfOk result (λ made. over_asked inputs.now ≡ Ok made.facts.over) }
 {
     let list = match read_texts(alloc, inputs) {
         Ok(list) => list,
         Err(fault) => return Err(fault),
     };
     match list.make(alloc, old) {
-        Ok(made) => Ok(with_texts(made, list.revocations)),
+        Ok(made) => Ok(with_texts(made, list.revocations, list.over)),
         Err(fault) => Err(fault),
     }
 }
 
-// The list with what it has of the old list, or of the texts alone.
-fn with_texts(made: Made<Merged>, listed: Revocations<Held>) -> Made<Facts>
+// The list with what it has of the old list, or of the texts alone, and how many of their lines are
+// over.
+fn with_texts(made: Made<Merged>, listed: Revocations<Held>, over: u64) -> Made<Facts>
     ensures bytes { result.bytes ≡ made.bytes }
     ensures version { result.facts.version ≡ made.facts.version }
     ensures revocations { result.facts.revocations ≡ unwrap_or made.facts.revocations listed }
     ensures lost { result.facts.lost ≡ made.facts.lost }
+    ensures over { result.facts.over ≡ over }
 {
     let Made { bytes, facts } = made;
     let facts = Facts {
         version: facts.version,
         revocations: facts.revocations.unwrap_or(listed),
         lost: facts.lost,
+        over,
     };
     Made { bytes, facts }
 }
@@ -66,6 +70,7 @@ pub fn text_run<'a, P: Target>(
     ensures made { IfOk result (λ made. IsPut P.holds P.replaced (is_read inputs.now.over)
         (λ old. MakesOver inputs.now old made.bytes.items made.facts.version
         made.facts.revocations made.facts.lost) made.bytes.items place.new) }
+    ensures over { IfOk result (λ made. over_asked inputs.now ≡ Ok made.facts.over) }
     ensures unmade { IfErr result (WhyUnmade P.base inputs.now place.new) }
     ensures kept { IfErr result (IsUntouched P.holds P.overtaken (fault_of inputs.now) place.old
         place.new) }
@@ -75,7 +80,7 @@ pub fn text_run<'a, P: Target>(
         Err(fault) => return Err(fault),
     };
     match make_at(alloc, &list, place) {
-        Ok(made) => Ok(with_texts(made, list.revocations)),
+        Ok(made) => Ok(with_texts(made, list.revocations, list.over)),
         Err(fault) => Err(fault),
     }
 }

@@ -2,7 +2,7 @@
 
 ghost use Rattle.std.specs.Prelude.{◌≡◌, ◌==◌, ◌+◌, ◌<◌, ◌^◌, IfOk};
 ghost use Rattle.text_run.specs.Making.{counts_of};
-ghost use Rattle.text_run.specs.Said.{amounts, lost_part, made_line, names_in, words};
+ghost use Rattle.text_run.specs.Said.{amounts, lost_part, made_line, names_in, over_part, words};
 
 use crate::counting::count;
 use crate::listed::Facts;
@@ -44,17 +44,34 @@ impl Printed for Part {
     }
 }
 
+// That entries are over, if there are any.
+#[derive(Clone, Copy)]
+struct OverPart(u64);
+
+impl Printed for OverPart {
+    ghost text = { λ part. over_part part.0 };
+
+    fn push_to(&self, out: &mut Vec<u8>) -> Result<(), AllocError> {
+        match self.0 {
+            0 => Ok(()),
+            1 => put!(out; b"; ", b"1 entry is over"),
+            over => put!(out; b"; ", over, b" entries are over"),
+        }
+    }
+}
+
 /// The line that says which list was made: its name, its version, how many authorities, serial
-/// numbers, key IDs, keys and hashes it names, and how many that only the list before it names.
+/// numbers, key IDs, keys and hashes it names, how many that only the list before it names, and how
+/// many entries are over.
 pub fn made_line(alloc: Global, name: &str, facts: &Facts) -> Result<Vec<u8>, AllocError>
     ensures { IfOk result (λ line. line.items ≡ made_line name.now facts.now.version
-        (counts_of facts.now.revocations) (counts_of facts.now.lost)) }
+        (counts_of facts.now.revocations) (counts_of facts.now.lost) facts.now.over) }
 {
     let amounts = amounts(alloc, &count(&facts.revocations))?;
     let lost = lost_part(alloc, &count(&facts.lost))?;
     let mut line = Vec::new(alloc);
     put!(&mut line; b"krl make: ", Visible(name.as_bytes(), false), b": version ", facts.version,
-        b": ", Words(words(&amounts)), Words(&lost), b"\n")?;
+        b": ", Words(words(&amounts)), Words(&lost), OverPart(facts.over), b"\n")?;
     Ok(line)
 }
 

@@ -14,6 +14,9 @@ BAD_NAME = "text 14 BadName"
 OTHER_KEY = "text 15 OtherKey"
 UNKNOWN_NAME = "text 16 UnknownName"
 MARKED_WORD = "text 17 MarkedWord"
+BAD_DATE = "text 18 BadDate"
+NO_LAST_DAY = "text 19 NoLastDay"
+DATE_IN_COMMENT = "text 20 DateInComment"
 
 # The words that a line can begin with, in the order in which one is thought to be meant.
 BEGINNINGS = ["serial", "id", "hash", "key", "ca", "ca-blob", "id-hex", "key-blob", "sha1"]
@@ -22,7 +25,8 @@ WORDS = {
     NUMBER: "a serial number is a number below 2^64",
     SPEC + "2 Zero": "serial number 0 names no certificate",
     SPEC + "3 Reversed": "a range of serial numbers ends below its first one",
-    NO_AUTHORITY: "no ca: line counts here: none is before it, or a key or a hash is between",
+    NO_AUTHORITY: "no CA is given: by @NAME before the word, or by a ca: line with no key or hash "
+    "between",
     SPEC + "5 EmptyId": "a key ID is empty",
     NO_KEY: "no key type stands there",
     SPEC + "6 Key, line 3 WordDiffers": "the key is of another type",
@@ -46,11 +50,15 @@ WORDS = {
     "text 13 SeveralIds": "a line has one key ID: use id-hex: for one that has a comma and a blank",
     BAD_NAME: "a name behind @ has 1 to 64 letters, digits, -, _ and ., and is not all",
     MARKED_WORD: "behind @NAME comes a colon and a key, or serial:, id: or id-hex:",
+    BAD_DATE: "until needs a day, as YYYY-MM-DD",
+    NO_LAST_DAY: "only a serial number, a key ID or a certificate has a last day",
+    DATE_IN_COMMENT: "a day in a comment ends nothing: begin the line with until YYYY-MM-DD",
 }
 
 
 def words(fault, line):
-    """What is said of a line with this fault. OTHER_KEY and UNKNOWN_NAME depend on other lines."""
+    """What is said of a line with this fault, where the last day that it begins with is left out.
+    OTHER_KEY and UNKNOWN_NAME depend on other lines."""
     hint = HINTS.get(fault, lambda content: None)(line.partition("#")[0].strip(" \t\r"))
     return "%s [%s]" % (hint or WORDS[fault], fault)
 
@@ -99,8 +107,10 @@ def is_near(given, meant):
 
 
 def misspelt(content):
-    """The word that content begins with, if it is nearly one of texts."""
+    """The word that content begins with, if it is nearly one of texts, or that of a last day."""
     given = re.match("[^:= \t]*", content)[0]
+    if is_near(given, "until"):
+        return "a last day comes first on a line: until YYYY-MM-DD"
     meant = next((it for it in BEGINNINGS if is_near(given, it)), None)
     return meant and '"%s" is no word of a text: did you mean "%s:"?' % (quoted(given), meant)
 
@@ -124,6 +134,9 @@ def without_prefix(content):
 
 def instead_of_key(content):
     value = value_in(content)
+    word, colon, _ = value.partition(":")
+    if content[0] == "@" and (value == "all" or colon and word.lower() in BEGINNINGS):
+        return "behind @NAME and a colon comes a key: an entry has no colon there"
     if re.fullmatch("SHA(1|256):[^ \t]*", content):
         return 'a fingerprint needs "hash:" before it'
     if re.fullmatch(r"[^ \t]*\.pub|[/~.][^ \t]*", value):

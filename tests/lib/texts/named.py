@@ -399,11 +399,14 @@ def amounts(counts):
     )
 
 
-def said(name, version, named, lost=None):
-    """The line about a list that was made, where only the list before it names what is lost."""
+def said(name, version, named, lost=None, over=0):
+    """The line about a list that was made, where only the list before it names what is lost, and
+    this many lines of its texts are over."""
     line = "krl make: %s: version %d: %s" % (name, version, amounts(named.counts()) or "nothing")
     counts = lost.counts()[1:] if lost else [0]
     if any(counts):
         verb = "is" if sum(counts) == 1 else "are"
         line += "; %s %s no longer revoked" % (amounts([0, *counts]), verb)
+    if over:
+        line += "; 1 entry is over" if over == 1 else "; %d entries are over" % over
     return line

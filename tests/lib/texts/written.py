@@ -3,9 +3,10 @@ shares nothing with the program. It knows of each line what it says, and finds o
 a command name, or which line is refused and why."""
 
 import hashlib
+import re
 
 from files import AUTHORITY, CERT, certificate
-from texts import faults
+from texts import days, faults
 from texts.at_random import WORDS
 from texts.keys import is_key, key
 from texts.named import Named, coded, fingerprint, line_of, of_blob, unpadded, visible
@@ -23,12 +24,13 @@ FRONTS = ["", "", " ", "\t\r "]
 
 
 class Reading:
-    """What the texts of a command name, up to the first line that is refused: the index of its
-    text, its number and the words about it. A text is the name of its file and its lines."""
+    """What the texts of a command name on a day, and how many of their lines are over, up to the
+    first line that is refused: the index of its text, its number and the words about it. A text is
+    the name of its file and its lines."""
 
-    def __init__(self, *texts):
-        self.texts = texts
-        self.named, self.names, self.refused = Named(), {}, None
+    def __init__(self, *texts, today=days.TODAY):
+        self.texts, self.today = texts, today
+        self.named, self.names, self.over, self.refused = Named(), {}, 0, None
         for at, (file, lines) in enumerate(texts):
             self.current = None
             for number, line in enumerate(lines, 1):
@@ -39,6 +41,7 @@ class Reading:
                     return
 
     def words(self, line, fault):
+        line = undated(line)
         if fault == faults.OTHER_KEY:
             return faults.other_key(line.name, self.names[line.name][1])
         if fault == faults.UNKNOWN_NAME:
@@ -132,13 +135,34 @@ class Marked(Line):
 class Alone(Line):
     """A key, a hash or a certificate, which the function adds. It ends the authority."""
 
-    def __init__(self, written, add):
+    def __init__(self, written, add, is_certificate=False):
         super().__init__(written)
-        self.add = add
+        self.add, self.is_certificate = add, is_certificate
 
     def say(self, reading):
         self.add(reading.named)
         reading.current = None
+
+
+class Dated(Line):
+    """A line behind its last day. Once the day is over it names nothing, and does all else."""
+
+    def __init__(self, written, day, line):
+        super().__init__(written)
+        self.day, self.line = day, line
+
+    def say(self, reading):
+        if self.day >= reading.today:
+            return self.line.say(reading)
+        named, reading.named = reading.named, Named()
+        fault = self.line.say(reading)
+        reading.named = named
+        reading.over += fault is None
+        return fault
+
+
+def undated(line):
+    return line.line if isinstance(line, Dated) else line
 
 
 class Wrong(Line):
@@ -164,15 +188,15 @@ def numeral(source, number):
     return source.choice(["%d", "%d", "%d", "0x%x", "0X%X", "0x00%x"]) % number
 
 
-def as_written(source, line):
-    """A line as people write it. What it says is the same."""
+def as_written(source, line, some=tuple(days.COMMENTS)):
+    """A line as people write it, often with one of some comments. What it says is the same."""
     word, colon, value = line.partition(": ")
     if colon and " " not in word:
         if word[0] != "@" and source.random() < 0.3:
             word = cased(source, word)
         line = word + ":" + source.choice([" ", " ", "", "\t "]) + value
     line = source.choice(FRONTS) + line
-    return line + source.choice(["", "", " ", "\r", " # until 2027-01-01", "\t# a # b", " #"])
+    return line + source.choice(["", "", " ", "\r", source.choice(some), "\t# a # b", " #"])
 
 
 def an_authority(pool):
@@ -186,14 +210,14 @@ def of_authority(pool, authority):
         line = "ca-blob: " + coded(authority)
     elif authority:
         line = of_blob("ca", authority).partition(" # ")[0]
-    return OfAuthority(as_written(pool.source, line), authority)
+    return OfAuthority(as_written(pool.source, line, days.WITH_DAY), authority)
 
 
 def naming(pool, name, authority):
     """The line that gives an authority this name. The comment of its key says nothing."""
     line = of_blob("@" + name, authority).partition(" # ")[0]
     line += pool.source.choice(["", "", " me@home", " a: b", " @user-ca: c"])
-    return Naming(as_written(pool.source, line), name, authority)
+    return Naming(as_written(pool.source, line, days.WITH_DAY), name, authority)
 
 
 def marked(pool, name, line):
@@ -259,11 +283,61 @@ def a_certificate(pool):
     if serial:
         add = lambda named: named.add_serials(AUTHORITY, serial, serial)
     line = "%s %s of a" % (CERT, coded(certificate(serial, text)))
-    return Alone(as_written(pool.source, line), add)
+    return Alone(as_written(pool.source, line), add, is_certificate=True)
 
 
 def a_comment(pool):
-    return Line(pool.source.choice(["", "# ca: all", " \t\r", "#", "# key: a", "\r"]))
+    some = ["", "# ca: all", " \t\r", "#", "# key: a", "\r", pool.source.choice(days.WITH_DAY)]
+    return Line(pool.source.choice(some))
+
+
+# ---- last days
+
+
+def before_day(pool):
+    source = pool.source
+    word = cased(source, "until") if source.random() < 0.3 else "until"
+    return word + source.choice([" ", " ", "\t", " \t "])
+
+
+def dated(pool, line, day=None):
+    """A line behind its last day. Its comment may have another one."""
+    source = pool.source
+    day = day or days.near(source, pool.today)
+    front = source.choice(FRONTS) + before_day(pool) + days.text(day)
+    front += source.choice([" ", " ", "\t", " \t "]) + line.written.lstrip(" \t\r")
+    return Dated(front + source.choice(["", "", *days.WITH_DAY]), day, line)
+
+
+def can_end(line):
+    return isinstance(line, (Under, Marked)) or isinstance(line, Alone) and line.is_certificate
+
+
+def maybe_dated(pool, line):
+    return dated(pool, line) if can_end(line) and pool.source.random() < 0.3 else line
+
+
+def damaged(pool, line):
+    """A line behind its last day, of which one letter is another one, missing or too much."""
+    source, rest = pool.source, line.written.lstrip(" \t\r")
+    front = before_day(pool) + days.text(days.near(source, pool.today))
+    letter, at = source.choice("0123456789-/ \txut:="), source.randrange(len(front))
+    front = front[:at] + source.choice(["", letter, letter + front[at]]) + front[at + 1 :]
+    front += source.choice(["", " ", " ", "\t ", letter])
+    content = (front + rest).lstrip(" \t")
+    word = re.match("until[ \t]+", content, re.IGNORECASE)
+    if not word:
+        return Wrong(front + rest, faults.UNKNOWN_WORD, False)
+    behind = content[word.end() :]
+    day = days.in_calendar(behind[:10])
+    if day is None or behind[10] not in " \t":
+        return Wrong(front + rest, faults.BAD_DATE, False)
+    return Dated(front + rest, day, line)
+
+
+def commented(pool, line):
+    """An entry with a day in its comment."""
+    return Wrong(line.written + pool.source.choice(days.WITH_DAY), faults.DATE_IN_COMMENT, False)
 
 
 ENTRIES = [a_serial, an_id]
@@ -278,6 +352,7 @@ def begin(pool):
     names = source.sample(NEARLY, 2) + source.sample(OTHERS, 2)
     pool.names = {it: source.choice(keys) for it in names}
     pool.given = ["all"]
+    pool.today = days.TODAY
 
 
 def a_naming(pool):
@@ -308,7 +383,7 @@ def right_text(pool):
             some = [a_naming]
         elif sort < 13:
             some = [a_marked]
-        lines.append(pool.source.choice(some)(pool))
+        lines.append(maybe_dated(pool, pool.source.choice(some)(pool)))
     return lines
 
 
@@ -335,7 +410,27 @@ def any_text(pool):
     if source.random() < 0.5:
         some += [any_naming] * 3 + [any_marked] * 10
         lines += [naming(pool, *it) for it in pool.names.items() if source.random() < 0.8]
-    return lines + [source.choice(some)(pool) for _ in range(source.randrange(10))]
+    lines += [source.choice(some)(pool) for _ in range(source.randrange(10))]
+    return [maybe_dated(pool, it) for it in lines]
+
+
+def days_text(pool, today):
+    """Lines with last days, mostly near the given one. In each third text some may be damaged."""
+    begin(pool)
+    source, pool.today = pool.source, today
+    lines = [naming(pool, *it) for it in pool.names.items()] + [an_authority(pool)]
+    odds = 0.15 if source.random() < 0.3 else 0
+    for _ in range(source.randrange(1, 20)):
+        line = source.choice([*ENTRIES, any_marked, any_marked, a_certificate, *BESIDE])(pool)
+        sort = source.random()
+        if sort < odds:
+            line = (damaged if can_end(line) and source.random() < 0.7 else commented)(pool, line)
+        elif sort < 0.7 and can_end(line):
+            line = dated(pool, line)
+        lines.append(line)
+        if isinstance(undated(line), Alone):
+            lines.append(an_authority(pool))
+    return lines
 
 
 # ---- texts that name the same
@@ -350,7 +445,7 @@ def in_three_forms(pool):
     under, alone, current = [], [], None
     for _ in range(source.randrange(20)):
         if source.random() < 0.2:
-            line, current = source.choice(BESIDE)(pool), None
+            line, current = maybe_dated(pool, source.choice(BESIDE)(pool)), None
             under.append(line)
             alone.append(line)
             continue
@@ -358,8 +453,12 @@ def in_three_forms(pool):
         authority = pool.names.get(name, b"")
         if authority != current or source.random() < 0.2:
             under.append(of_authority(pool, authority))
-        under.append(entry)
-        alone.append(marked(pool, name, entry))
+        both = [entry, marked(pool, name, entry)]
+        if source.random() < 0.3:
+            day = days.near(source, pool.today)
+            both = [dated(pool, it, day) for it in both]
+        under.append(both[0])
+        alone.append(both[1])
         current = authority
     shuffled = source.sample(names, len(names)) + source.sample(alone, len(alone))
     cut = source.randrange(len(shuffled) + 1)
@@ -373,14 +472,16 @@ def branches(pool):
     names = {it: naming(pool, it, authority) for it, authority in pool.names.items()}
     entries = [any_marked(pool) for _ in range(source.randrange(1, 12))]
     entries += [source.choice([*BESIDE, a_comment])(pool) for _ in range(source.randrange(4))]
+    entries = [maybe_dated(pool, it) for it in entries]
     sides = []
     for _ in range(2):
         lines, given = [], set(pool.given)
         for it in source.sample(entries, source.randrange(len(entries) + 1)):
-            if isinstance(it, Marked) and it.name not in given:
+            name = getattr(undated(it), "name", "all")
+            if name not in given:
                 same = source.random() < 0.7
-                lines.append(names[it.name] if same else naming(pool, it.name, pool.names[it.name]))
-                given.add(it.name)
+                lines.append(names[name] if same else naming(pool, name, pool.names[name]))
+                given.add(name)
             lines.append(it)
         sides.append(lines)
     return base, sides

@@ -1,10 +1,14 @@
 """Texts with a wrong line, which has one of the faults of docs/FAULTS.md."""
 
+import re
+
 from files import AUTHORITY, CERT, OTHER, SEVENTH, certificate
-from texts.faults import BAD_NAME, MARKED_WORD, NO_KEY, NUMBER, SPEC, UNKNOWN_WORD
+from texts import days
+from texts.faults import BAD_DATE, BAD_NAME, DATE_IN_COMMENT, MARKED_WORD, NO_KEY, NO_LAST_DAY
+from texts.faults import NUMBER, SPEC, UNKNOWN_WORD
 from texts.keys import FIELDS
 from texts.named import CERTIFICATES, coded, of_blob
-from texts.written import Marked, Naming, OfAuthority, Under, Wrong, naming, right_text
+from texts.written import Dated, Marked, Naming, OfAuthority, Under, Wrong, naming, right_text
 
 CERTIFICATE = "text 2 Certificate"
 WORD_DIFFERS = SPEC + "6 Key, line 3 WordDiffers"
@@ -71,6 +75,15 @@ ANYWHERE = {
         "serials: 5",
         "+ serial: 5",
         "- ca: all",
+        "until",
+        "until:",
+        "until: 2027-01-01 serial: 5",
+        "UNTIL=2027-01-01 serial: 5",
+        "untill 2027-01-01 serial: 5",
+        "utnil 2027-01-01 serial: 5",
+        "until2027-01-01 serial: 5",
+        "untiill 2027-01-01 serial: 5",
+        "2027-01-01 serial: 5",
         *(it + OF_AUTHORITY for it in BEFORE_A_KEY),
     ],
     "text 8 ControlInId": [
@@ -131,6 +144,10 @@ BEHIND_A_NAME = {
         ": " + OF_AUTHORITY,
         "ca: " + OF_AUTHORITY,
         "serial: 5",
+        "SERIAL:0",
+        "key: " + OF_AUTHORITY,
+        "serial 5",
+        "until 2027-01-01 serial: 5",
         *(it + OF_AUTHORITY for it in [*BEFORE_A_KEY, "@wrong-ca ", "@revoked * "]),
     ],
     CERTIFICATE: ["%s %s" % (CERT, coded(SEVENTH))],
@@ -183,6 +200,11 @@ BEHIND_A_MARK = [
     " *.example.com " + OF_AUTHORITY,
     "# serial: 5",
     " # serial: 5",
+    " until",
+    " until 2027-01-01 serial: 5",
+    "\tUNTIL: 2027-01-01 serial: 5",
+    " unti=2027-01-01 serial: 5",
+    " unil 2027-01-01 serial: 5",
 ]
 # What is behind the mark is looked at before the name.
 MARKS = ["wrong-ca", "wrong-ca", "all", "nobody", "", "a@b"]
@@ -228,9 +250,63 @@ def entries(lines):
         yield Marked("@%s serial: 5" % name, name, FIFTH)
 
 
-WRONG = [Wrong(line, fault, True) for fault, lines in WHERE_CURRENT.items() for line in lines]
-WRONG += [Wrong(line, fault, False) for fault, lines in ANYWHERE.items() for line in lines]
-WRONG += [*namings(), *words_behind(), *entries(WRONG)]
+# ---- last days
+
+# Behind "until" and a blank.
+NO_DAYS = ["serial: 5", "@wrong-ca serial: 5", "ca: all", ": 2027-01-01 serial: 5", "x", "\rx"]
+NO_DAYS += ["2027-01-01serial: 5", "2027-01-01: serial: 5", "2027-01-01,2027-01-02 serial: 5"]
+NO_DAYS += [
+    it + " @wrong-ca serial: 5"
+    for it in [
+        *("2027-02-29", "1900-02-29", "2028-02-30", "2027-04-31", "2027-00-01", "2027-13-01"),
+        *("2027-01-00", "2027-01-32", "2027-1-01", "2027-01-1", "27-01-01", "02027-01-01"),
+        *("20270101", "2027/01/01", "01.01.2027", "2027-01-01T00:00", "2027-01-010", "2027-01-0x"),
+        *("2027 -01-01", "2027-01- 1", "+027-01-01", '"2027-01-01"', "until 2027-01-01", "never"),
+    ]
+]
+# A last day that is over, that of the list, and one that is not over.
+LAST_DAYS = ["2028-02-28", "0000-02-29", "2028-02-29", "2028-03-01", "9999-12-31"]
+ENDED = ["certificate", "key"]
+
+
+def form_of(line):
+    """What a line is about by its form: a certificate, a key, an authority, nothing, or none."""
+    content = line.partition("#")[0].strip(" \t\r")
+    word = re.match("[^:]*:|", content)[0].lower()
+    kind = re.match("[^ \t]*", content)[0].encode()
+    if word in ("serial:", "id:", "id-hex:") or kind in CERTIFICATES:
+        return "certificate"
+    if word in ("ca:", "ca-blob:") or re.match("@[^:= \t]*:", content):
+        return "authority"
+    if word in ("key:", "key-blob:", "sha1:", "sha256:", "hash:") or kind in FIELDS:
+        return "key"
+    return "none" if content else "nothing"
+
+
+def last_days(lines):
+    """Lines that begin with no day, and lines behind one, most of which are wrong otherwise."""
+    yield from (Wrong("until " + it, BAD_DATE, False) for it in NO_DAYS)
+    for at, line in enumerate([Wrong("", "", False), GOOD[0], GOOD[2], *lines]):
+        day = LAST_DAYS[at % len(LAST_DAYS)]
+        written = ["until ", "UNTIL\t"][at % 2] + day + " " + line.written
+        if form_of(line.written) in ("authority", "key", "nothing"):
+            yield Wrong(written, NO_LAST_DAY, False)
+        else:
+            yield Dated(written, days.in_calendar(day), line)
+
+
+def days_in_comments(lines):
+    """A day in the comment of an entry is its first fault, whatever else is wrong with it."""
+    lines = [it.written for it in lines if isinstance(it, Marked) or form_of(it.written) in ENDED]
+    for at, line in enumerate([*lines, OF_AUTHORITY, "serial: 5", "@all id: a"]):
+        yield Wrong(line + days.WITH_DAY[at % len(days.WITH_DAY)], DATE_IN_COMMENT, False)
+
+
+PLAIN = [Wrong(line, fault, True) for fault, lines in WHERE_CURRENT.items() for line in lines]
+PLAIN += [Wrong(line, fault, False) for fault, lines in ANYWHERE.items() for line in lines]
+MARKED = [*entries(PLAIN)]
+UNDATED = [*PLAIN, *namings(), *words_behind(), *MARKED]
+WRONG = [*UNDATED, *last_days(UNDATED), *days_in_comments([*PLAIN, *MARKED])]
 
 
 def wrong_text(pool, turn):

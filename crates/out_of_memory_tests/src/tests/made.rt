@@ -7,7 +7,7 @@ use krl_spec::SpecCause;
 use span_sets::Held;
 use std::alloc::AllocError;
 use test_fixtures::{GITHUB_LINE, GITHUB_PRINT, OTHER_LINE, joined};
-use text_entries::{AuthorityNames, TextCause, read_text};
+use text_entries::{Standing, TextCause, read_text};
 
 // Ten lines, of which each but the first three names one more entry.
 const LINES: [&[u8]; 15] = [
@@ -34,8 +34,8 @@ fn a_text(rt: HostRuntime) {
         return;
     };
     let mut held: Revocations<Held> = Revocations::new(rt.alloc());
-    let names = AuthorityNames::new(rt.alloc());
-    match read_text(rt.alloc(), &mut held, names, &text) {
+    let mut standing = Standing::new(rt.alloc(), 0);
+    match read_text(rt.alloc(), &mut held, &mut standing, &text) {
         Ok(_) => assert!(rt; size(&held) == 8),
         Err(fault) => {
             assert!(rt; fault.cause == TextCause::Spec(SpecCause::NoMemory));

@@ -1,6 +1,6 @@
 //! The authority that is current: until a key, a hash, a certificate or the end of the text.
 
-use crate::tests::lines::{has_fault, made};
+use crate::tests::lines::{TODAY, has_fault, made};
 use krl_core::Revocations;
 use run_faults::SpecCause;
 use span_sets::Held;
@@ -9,7 +9,7 @@ use std::process::Abort;
 use test_fixtures::{
     CERT_LINE, FIVE, GITHUB_LINE, GITHUB_PRINT, HEADER, ID_A, KEY_SECTION, OTHER_LINE, joined,
 };
-use text_entries::{AuthorityNames, TextCause, TextFault, read_text};
+use text_entries::{Standing, TextCause, TextFault, read_text};
 
 const NO_AUTHORITY: &str = "text 1 Spec, spec 4 NoAuthority";
 
@@ -177,9 +177,9 @@ pub fn after_both(
     second: &[u8],
 ) -> (u128, Option<TextFault>) {
     let mut held: Revocations<Held> = Revocations::new(alloc);
-    let none = AuthorityNames::new(alloc);
-    let names = read_text(alloc, &mut held, none, first).expect(rt, "the first text is right");
-    let fault = read_text(alloc, &mut held, names, second).err();
+    let mut standing = Standing::new(alloc, TODAY);
+    read_text(alloc, &mut held, &mut standing, first).expect(rt, "the first text is right");
+    let fault = read_text(alloc, &mut held, &mut standing, second).err();
     (held.held(), fault)
 }
 

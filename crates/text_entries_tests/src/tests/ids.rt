@@ -9,7 +9,7 @@ use ssh_wire::Bytes;
 use std::alloc::Global;
 use std::process::Abort;
 use test_fixtures::joined;
-use text_entries::{AuthorityNames, read_text};
+use text_entries::{Standing, read_text};
 
 const QUOTED: &str = "text 12 QuotedId";
 
@@ -167,7 +167,7 @@ fn joined_texts_are_read_back(rt: HostRuntime) {
     one.add_id(b"", b"'x'").expect(&rt, "there is memory");
     one.add_key(b"\x02").expect(&rt, "there is memory");
     let mut held: Revocations<Held> = Revocations::new(alloc);
-    let names = AuthorityNames::new(alloc);
-    assert!(rt; read_text(alloc, &mut held, names, &text).is_ok());
+    let mut standing = Standing::new(alloc, 0);
+    assert!(rt; read_text(alloc, &mut held, &mut standing, &text).is_ok());
     assert!(rt; list_of(&rt, alloc, &held) == list_of(&rt, alloc, &one));
 }

@@ -10,12 +10,15 @@ use test_fixtures::{
     CERT_LINE, FIVE, GITHUB_LINE, GITHUB_PRINT, HEADER, ID_A, KEY_SECTION, OTHER_LINE,
     SHA256_SECTION, joined,
 };
-use text_entries::{AuthorityNames, TextFault, read_text};
+use text_entries::{Standing, TextFault, read_text};
+
+/// The day of the tests, 2026-11-15, by its number from 1970-01-01 on.
+pub const TODAY: u64 = 20_772;
 
 /// The list of version 1 that names what a text names, or the fault of the text.
 pub fn made(rt: &impl Abort, alloc: Global, text: &[u8]) -> Result<Vec<u8>, TextFault> {
     let mut held: Revocations<Held> = Revocations::new(alloc);
-    read_text(alloc, &mut held, AuthorityNames::new(alloc), text)?;
+    read_text(alloc, &mut held, &mut Standing::new(alloc, TODAY), text)?;
     let header = Header {
         version: 1,
         date: 0,
@@ -30,7 +33,7 @@ const NAMED: [(&[&[u8]], &[&[u8]]); 28] = [
     (&[b"# a comment\n \t\r\n"], &[]),
     (&[b"ca: all"], &[]),
     (&[b"ca: all\nserial: 5"], &[FIVE]),
-    (&[b"\tCA:all\r\n SERIAL:5 # until 2027-01-01\n"], &[FIVE]),
+    (&[b"\tCA:all\r\n SERIAL:5 # since 2026-01-01\n"], &[FIVE]),
     (&[b"ca: all\nid: a"], &[ID_A]),
     (&[b"ca: all\nid: a # b"], &[ID_A]),
     (&[b"ca: all\nid-hex: 61"], &[ID_A]),
@@ -272,7 +275,7 @@ fn nothing_between_a_word_and_its_key(rt: HostRuntime) {
 fn up_to_a_fault(rt: HostRuntime) {
     let mut held: Revocations<Held> = Revocations::new(rt.alloc());
     let text = b"ca: all\nserial: 5\nserial: 7-\nserial: 9";
-    let names = AuthorityNames::new(rt.alloc());
-    let read = read_text(rt.alloc(), &mut held, names, text);
+    let mut standing = Standing::new(rt.alloc(), TODAY);
+    let read = read_text(rt.alloc(), &mut held, &mut standing, text);
     assert!(rt; read.is_err() && held.authorities() == 1 && held.held() == 1);
 }

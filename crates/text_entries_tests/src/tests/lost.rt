@@ -9,7 +9,7 @@ use span_sets::Held;
 use std::alloc::Global;
 use std::process::Abort;
 use test_fixtures::{GITHUB_LINE, joined};
-use text_entries::{AuthorityNames, read_text};
+use text_entries::{Standing, read_text};
 use text_run::{Inputs, Over, read_texts};
 
 // The line about a list that names nothing, and that lost nothing.
@@ -18,10 +18,8 @@ const NOTHING: &[u8] = b"krl make: r.krl: version 1: nothing\n";
 // The revocations that a text names.
 fn held_of(rt: &impl Abort, alloc: Global, text: &[u8]) -> Revocations<Held> {
     let mut held: Revocations<Held> = Revocations::new(alloc);
-    read_text(alloc, &mut held, AuthorityNames::new(alloc), text).expect(
-        rt,
-        "the text has no fault",
-    );
+    let mut standing = Standing::new(alloc, 0);
+    read_text(alloc, &mut held, &mut standing, text).expect(rt, "the text has no fault");
     held
 }
 

@@ -10,14 +10,14 @@ use krl_core::Revocations;
 use list_making::Maker;
 use span_sets::Held;
 use std::alloc::Global;
-use text_entries::{AuthorityNames, TextFault, read_text};
+use text_entries::{Standing, TextFault, read_text};
 use text_laws::laws::text_reads_back;
 use text_run::{Inputs, MakeFault, Over, read_texts};
 
 /// The names of a text.
 fn named_by(alloc: Global, text: &[u8]) -> Result<Revocations<Held>, TextFault> {
     let mut held = Revocations::new(alloc);
-    read_text(alloc, &mut held, AuthorityNames::new(alloc), text)?;
+    read_text(alloc, &mut held, &mut Standing::new(alloc, 0), text)?;
     Ok(held)
 }
 
@@ -34,7 +34,7 @@ fn restored(alloc: Global, text: &[u8]) -> Result<Revocations<Held>, TextFault>
 {
     text_reads_back();
     let mut held = Revocations::new(alloc);
-    read_text(alloc, &mut held, AuthorityNames::new(alloc), text)?;
+    read_text(alloc, &mut held, &mut Standing::new(alloc, 0), text)?;
     Ok(held)
 }
 

@@ -58,6 +58,7 @@ pub fn said_made(
         version: 1,
         revocations,
         lost,
+        over: 0,
     };
     made_line(alloc, "r.krl", &facts).expect(rt, "there is memory")
 }
@@ -85,11 +86,13 @@ fn of_two_texts(rt: HostRuntime) {
 const REFUSED: [(&[Option<&[&[u8]]>], &[u8]); 6] = [
     (
         &[Some(&[b"ca: all\n\n"])],
-        b"krl: r.krl: no text has an entry, and the list would revoke nobody [make 1 Empty]\n",
+        b"krl: r.krl: the list would revoke nobody: no text has an entry, or each is over \
+[make 1 Empty]\n",
     ),
     (
         &[],
-        b"krl: r.krl: no text has an entry, and the list would revoke nobody [make 1 Empty]\n",
+        b"krl: r.krl: the list would revoke nobody: no text has an entry, or each is over \
+[make 1 Empty]\n",
     ),
     (
         &[Some(&[b"ca: all\nid: a\nid: b#"])],
@@ -99,8 +102,8 @@ const REFUSED: [(&[Option<&[&[u8]]>], &[u8]); 6] = [
     // No authority is current in the second text.
     (
         &[Some(&[b"ca: all\nid: a\n"]), Some(&[b"id: b\n"])],
-        b"krl: t: line 1: no ca: line counts here: none is before it, or a key or a hash is \
-between [text 1 Spec, spec 4 NoAuthority]\n",
+        b"krl: t: line 1: no CA is given: by @NAME before the word, or by a ca: line with no key \
+or hash between [text 1 Spec, spec 4 NoAuthority]\n",
     ),
     // Nor is one in the second text after a key of its own.
     (
@@ -108,8 +111,8 @@ between [text 1 Spec, spec 4 NoAuthority]\n",
             Some(&[b"ca: all\nid: a\n"]),
             Some(&[b"ca: all\n\nkey-blob: AQ==\nserial: 5\n"]),
         ],
-        b"krl: t: line 4: no ca: line counts here: none is before it, or a key or a hash is \
-between [text 1 Spec, spec 4 NoAuthority]\n",
+        b"krl: t: line 4: no CA is given: by @NAME before the word, or by a ca: line with no key \
+or hash between [text 1 Spec, spec 4 NoAuthority]\n",
     ),
     (
         &[Some(&[b"ca: all\nid: a\n"]), None],
@@ -308,8 +311,8 @@ const QUOTED: &[u8] =
 const SEVERAL: &[u8] = b"a line has one key ID: use id-hex: for one that has a comma and a blank \
 [text 13 SeveralIds]";
 
-const NO_CA: &[u8] = b"no ca: line counts here: none is before it, or a key or a hash is between \
-[text 1 Spec, spec 4 NoAuthority]";
+const NO_CA: &[u8] = b"no CA is given: by @NAME before the word, or by a ca: line with no key or \
+hash between [text 1 Spec, spec 4 NoAuthority]";
 
 const NO_HASH: &[u8] =
     b"a fingerprint needs \"hash:\" before it [text 1 Spec, spec 6 Key, line 1 NoKey]";

@@ -7,7 +7,7 @@ use Rattle.text_entries.proofs.reading.read_text.Given as goal
 
 abbrev pub invariant-lines : goal.invariant-lines
 invariant-lines g l = record {
-  reached : IsAt l.fn.names (slice_split is_newline l.fn.text) l.passed (slice_split is_newline l.rest) l.standing l.initial.revocations l.revocations;
+  reached : IsAt l.fn.standing (slice_split is_newline l.fn.text) l.passed (slice_split is_newline l.rest) l.standing l.initial.revocations l.revocations;
   counted : l.passed + length l.rest ≤ length l.fn.text;
 }
 

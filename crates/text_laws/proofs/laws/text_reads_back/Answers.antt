@@ -5,7 +5,7 @@ pub returns-clause-read : goal.returns-clause-read
 returns-clause-read c r stored = read_back r stored
 
 pub returns-clause-means : goal.returns-clause-means
-returns-clause-means c r stored = means_back r stored
+returns-clause-means c r today stored = means_back r today stored
 
 pub returns-clause-same : goal.returns-clause-same
 returns-clause-same c r held stored into = same_back r held stored into

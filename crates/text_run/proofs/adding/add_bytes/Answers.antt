@@ -7,4 +7,4 @@ returns-in-Ok g c = bytes_added _ _ _ _ _ _ c.in-Ok.ensures.reads c.in-Ok.ensure
 
 pub returns-in-Err : goal.returns-in-Err
 returns-in-Err g c =
-    rw c.line_fault.ensures (bytes_stop _ c.args.name.now c.args.bytes.now c.in-Err.fault.line c.in-Err.fault.cause _ _ c.in-Err.ensures.reads)
+    rw c.line_fault.ensures (bytes_stop _ c.read_text.new.standing c.args.name.now c.args.bytes.now c.in-Err.fault.line c.in-Err.fault.cause _ _ c.in-Err.ensures.reads)

@@ -4,4 +4,4 @@ use Rattle.text_run.proofs.TextsAdded.{IsAt}
 use Rattle.text_run.proofs.adding.add_texts.Given as goal
 
 abbrev pub invariant-loop-text : goal.invariant-loop-text
-invariant-loop-text g l = IsAt l.texts (drop l.text-index l.texts) l.names l.initial.revocations l.revocations
+invariant-loop-text g l = IsAt l.today l.texts (drop l.text-index l.texts) l.standing l.initial.revocations l.revocations

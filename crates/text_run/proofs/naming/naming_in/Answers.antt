@@ -2,7 +2,6 @@
 use Rattle.std.proofs.Common.{refl}
 use Rattle.std.proofs.lemmas.List.{drop_all}
 use Rattle.text_run.proofs.TextsAdded.{texts_next}
-use Rattle.text_run.specs.Naming.{is_sought, texts_naming}
 use Rattle.text_run.proofs.naming.naming_in.Goals as goal
 
 pub returns-in-Some : goal.returns-in-Some

@@ -1,5 +1,5 @@
 -- The key has the name now.
-use Rattle.std.proofs.Common.{sym, ap, ◌∙◌}
+use Rattle.std.proofs.Common.{ap, ◌∙◌}
 use Rattle.text_entries.specs.AuthorityNames.{named_keys}
 use Rattle.text_entries.proofs.NamedKeys.{named_insert}
 use Rattle.text_entries.proofs.authority_names.AuthorityNames.add.Goals as goal
