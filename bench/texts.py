@@ -19,6 +19,8 @@ NAMED_LINES = {
     "key IDs": specs.ids,
 }
 NAMES = (1, 50)
+# Last days: one to come, and one that is over.
+DAYS = {"to come": "2999-12-31", "over": "1999-12-31"}
 # Shapes whose entries differ if the sizes do, and those whose entries then are nearly the same.
 PAIRS = ("random serials", "ranges", "key IDs", "many authorities", "explicit keys")
 
@@ -86,6 +88,23 @@ def named():
             row(what, *least_in_turn(commands, 31), "%12.2f" % (make / other))
 
 
+def dated():
+    """The text has a last day before each entry. The other one has the same entries without."""
+    head("krl make, a last day before each entry", "no last day", "instructions")
+    command = [AUDIT, *"make -q --replace --allow-empty -f made.krl".split()]
+    commands = [[*command, it] for it in ("text", "other")]
+    for when, day in DAYS.items():
+        for name, lines in NAMED_LINES.items():
+            entries = list(lines(NAMED, random.Random(1)))
+            with open("text", "w") as out:
+                out.writelines(["ca: all\n", *("until %s %s" % (day, it) for it in entries)])
+            with open("other", "w") as out:
+                out.writelines(["ca: all\n", *entries])
+            make, other = map(instructions, commands)
+            what = "%d %s, %s" % (NAMED, name, when)
+            row(what, *least_in_turn(commands, 31), "%12.2f" % (make / other))
+
+
 def compared():
     """Two lists, beside both of them printed."""
     if subprocess.run([AUDIT, "help", "diff"], capture_output=True).returncode != 0:
@@ -106,4 +125,5 @@ def texts():
     shown()
     made()
     named()
+    dated()
     compared()
