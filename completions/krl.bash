@@ -10,16 +10,16 @@ _krl() {
   elif [ "$before" = --max-age ]; then
     offered=$(compgen -W '90m 24h 7d' -- "$word")
   elif [[ $word != -* || $before == -*f ||
-    $before == --@(files0-from|newer-than|superset-of|keep|canary) ]]; then
+    $before == --@(files0-from|newer-than|superset-of|keep|canary|names) ]]; then
     offered=$(compgen -f -- "$word")
     compopt -o filenames 2>/dev/null
   elif [ "${COMP_WORDS[1]}" = check ]; then
     offered=$(compgen -W '--newer-than --superset-of --max-age --max-cas --keep --canary
       --allow-empty --json --print-version --help --version' -- "$word")
   elif [ "${COMP_WORDS[1]}" = show ]; then
-    offered=$(compgen -W '--json --no-name --help --version' -- "$word")
+    offered=$(compgen -W '--json --no-name --names --help --version' -- "$word")
   elif [ "${COMP_WORDS[1]}" = diff ]; then
-    offered=$(compgen -W '--json --help --version' -- "$word")
+    offered=$(compgen -W '--json --names --help --version' -- "$word")
   elif [ "${COMP_WORDS[1]}" = make ]; then
     offered=$(compgen -W '-f -n -q -u -z --comment --replace --allow-empty --help
       --version' -- "$word")

@@ -51,6 +51,7 @@ complete -c krl -n "$checks" -l print-version -d 'Print the version of the list 
 complete -c krl -n "$shows" -F
 complete -c krl -n "$shows" -l json -d 'Print one JSON object on a line for each entry'
 complete -c krl -n "$shows" -l no-name -d 'Leave out the name of each list'
+complete -c krl -n "$shows" -l names -rF -d 'Name the CAs as this text of a list does'
 complete -c krl -n "$makes" -F
 complete -c krl -n "$makes" -s f -rF -d 'The revocation list that is made'
 complete -c krl -n "$makes" -s z -x -d 'Its version'
@@ -62,3 +63,4 @@ complete -c krl -n "$makes" -l replace -d 'Do not read the list that is replaced
 complete -c krl -n "$makes" -l allow-empty -d 'Make a list that revokes nobody'
 complete -c krl -n "$diffs" -F
 complete -c krl -n "$diffs" -l json -d 'Print one JSON object on a line for each entry'
+complete -c krl -n "$diffs" -l names -rF -d 'Name the CAs as this text of a list does'

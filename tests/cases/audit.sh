@@ -1084,7 +1084,7 @@ cp -r "$top/demo/audit" demo && cd demo || exit 1
 manual=$top/docs/krl.1
 example=$(sed 's/\\e/\\/g' "$manual" |
   awk '/^\.Bd -literal/ { on = 1; next } /^\.Ed/ { on = 0 } on' |
-  awk '/^\$ / { on = 1 } on; /^1$/ { exit }')
+  awk '/^\$ krl audit / { on = 1 } on; /^1$/ { exit }')
 program=$keygen transcript 'the example of the manual page' <<<"$example"
 
 # Its other examples, in this folder. ssh runs the command here, and vim says where it is.

@@ -69,8 +69,12 @@ offers_krl 'durations' 24h,7d,90m check --max-age ''
 offers_krl 'the duration that was begun' 24h check --max-age 2
 offers_krl 'a file to be kept' one.pub check --keep o
 offers_krl 'a list to check' two.krl check --keep one.pub t
-offers_krl 'the options of a shown list' --help,--json,--no-name,--version show -
+offers_krl 'the options of a shown list' --help,--json,--names,--no-name,--version show -
 offers_krl 'a list to show' two.krl show t
+offers_krl 'a text with names' one.pub show two.krl --names o
+offers_krl 'a list to show behind a text with names' two.krl show --names one.pub t
+offers_krl 'the options of two lists' --help,--json,--names,--version diff -
+offers_krl 'another text with names' one.pub diff --names one.pub --names o
 offers_krl 'the options of a list that is made' \
   --allow-empty,--comment,--help,--replace,--version,-f,-n,-q,-u,-z make -
 offers_krl 'texts to make a list of' "$every" make -f two.krl ''

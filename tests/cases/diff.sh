@@ -1,4 +1,5 @@
-# krl diff: each kind of line, what OpenSSH prints of both lists, and lists that are not read.
+# krl diff: each kind of line, the names of CAs, what OpenSSH prints of both lists, and lists that are
+# not read.
 
 program=$krl
 g=$(line ssh-ed25519 "$G")
@@ -84,6 +85,113 @@ expect 'changes as JSON' 1 '{"change":"added","key":"'"$f"'"}
 {"status":"done","added":{'"${none/\"keys\":0/\"keys\":1}"'},"removed":{'"$some"'}}
 ' '' diff --json in_a.krl plain
 
+# The names that texts give to CAs. A key has none, also where it is that of a CA.
+made all_and_b "$(under '' 20 0000000000000007)" "$(under "$B" 20 0000000000000009)" \
+  "$(under "$B" 23 "$(words bob 'until 2026-11-15')")" "$(section "$A")"
+A_key=${a#*: } B_key=${b#*: }
+printf '@users: %s of a # until 2001-02-03\n@users id: x\n' "${A_key% \# *}" >of-a
+printf '@zed: %s\n@hosts: %s\n@i: %s\n' "$B_key" "$B_key" "$B_key" >of-b
+printf '@nobody: %s\n@nobody serial: 7\n' "$g" >of-none
+by_a="  @users: $A_key" by_b="  @hosts: $B_key"
+# by_names NAME LINES WORD..: what differs, by names.
+by_names() {
+  expect "$1" 1 "$2" '' diff "${@:3}"
+}
+gone_of_a="- serial: 7
+- id: bob
+"
+by_names 'no name of these CAs' "  ca: all
++ serial: 7
+$b
++ serial: 9
++ id: bob
++ id-hex: 756e74696c20323032362d31312d3135
++ key: $A_key
+$a
+$gone_of_a" --names of-none in_a.krl all_and_b.krl
+by_names 'the name of the CA of an old list' "  ca: all
++ serial: 7
+$b
++ serial: 9
++ id: bob
++ id-hex: 756e74696c20323032362d31312d3135
++ key: $A_key
+$by_a
+- @users serial: 7
+- @users id: bob
+" --names of-a in_a.krl all_and_b.krl
+by_names 'the first of the names of the CA of a new list' "  ca: all
++ serial: 7
+$by_b
++ @hosts serial: 9
++ @hosts id: bob
++ @hosts id-hex: 756e74696c20323032362d31312d3135
++ key: $A_key
+$a
+$gone_of_a" in_a.krl --names of-b all_and_b.krl
+both="  ca: all
+- serial: 7
+$by_b
+- @hosts serial: 9
+- @hosts id: bob
+- @hosts id-hex: 756e74696c20323032362d31312d3135
+- key: $A_key
+"
+by_names 'the names of two texts' "$by_a
++ @users serial: 7
++ @users id: bob
+$both" --names of-a --names of-b all_and_b.krl in_a.krl
+by_names 'the same, one of them on standard input' "$by_a
++ @users serial: 7
++ @users id: bob
+$both" all_and_b.krl in_a.krl --names - --names of-a <of-b
+by_names 'a CA on both sides' "  ca: all
++ serial: 7
+$by_b
++ @hosts serial: 9
++ @hosts id-hex: 756e74696c20323032362d31312d3135
++ key: $A_key
+$by_b
+- @hosts serial: 7
+- @hosts id-hex: 61206223
+" --names of-b in_b.krl all_and_b.krl
+expect 'lists that name the same, with names' 0 '' '' diff --names of-a --names of-b in_a.krl in_a.krl
+expect 'an old list on standard input, and a text with names' 1 "$by_a
+- @users serial: 7
+- @users id: bob
+" '' diff --names of-a - none.krl <in_a.krl
+expect 'names in JSON' 1 '{"change":"added","ca":"all","serial":["7","7"]}
+{"change":"added","ca":"'"$(fingerprint "$B")"'","serial":["9","9"]}
+{"change":"added","ca":"'"$(fingerprint "$B")"'","id":"bob"}
+{"change":"added","ca":"'"$(fingerprint "$B")"'","id":"until 2026-11-15"}
+{"change":"added","key":"'"$ca"'"}
+{"change":"removed","ca":"'"$ca"'","name":"users","serial":["7","7"]}
+{"change":"removed","ca":"'"$ca"'","name":"users","id":"bob"}
+{"status":"done","added":{"cas":2,"serials":"2","ids":2,"keys":1,"hashes":0},"removed":{'"$some"'}}
+' '' diff --json --names of-a in_a.krl all_and_b.krl
+for words in '--names - - key.krl' '--names - key.krl -' '--names - --names - key.krl in_a.krl'; do
+  # shellcheck disable=SC2086
+  expect_text "standard input twice: diff $words" 2 error diff $words <of-a
+done
+printf '@users: %s\n' "$g" >of-other
+printf '@hosts serial: 5\n' >uses-b
+while IFS='|' read -r words said <&3; do
+  for json in '' --json; do
+    # shellcheck disable=SC2086
+    expect "names that are refused: $words $json" 255 '' "krl: $said"$'\n' \
+      diff $json $words key.krl in_a.krl <uses-b
+  done
+done 3<<'ROWS'
+--names of-a --names of-other|of-other: line 1: the name "users" has another key: of-a, line 1 [text 15 OtherKey]
+--names uses-b --names of-b|uses-b: line 1: no CA is named "hosts" above: did you mean "hosts" (of-b, line 2)? [text 16 UnknownName]
+--names of-a --names -|-: line 1: no CA is named "hosts" above [text 16 UnknownName]
+--names missing|missing: No such file or directory [file 1 Open]
+--names of-a --names missing|missing: No such file or directory [file 1 Open]
+ROWS
+by_names 'a text that uses a name of the one before it' "$by_b
+- @hosts serial: 8
+" --names of-b --names uses-b in_both.krl in_a.krl
+
 # Standard input.
 expect 'a new list on standard input' 1 "+ key: $g # $f"$'\n' '' diff none.krl - <key.krl
 expect 'an old list on standard input' 1 "- key: $g # $f"$'\n' '' diff - none.krl <key.krl
@@ -108,7 +216,7 @@ if [ -e /dev/full ]; then
   )"
 fi
 for words in '' key.krl 'key.krl none.krl plain' '--json --json key.krl plain' \
-  '-q key.krl plain'; do
+  '-q key.krl plain' '--names of-a key.krl' '--names of-a' 'key.krl plain --names'; do
   # shellcheck disable=SC2086
   run diff $words
   judge "the words 'diff $words'" "$(

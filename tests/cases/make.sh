@@ -148,7 +148,60 @@ for id in 'a, b' ', b' 'alice,  bob' 'Doe, John # c' '"a", b' "\"a\", 'b'"; do
   names_nobody "$id" 'a line has one key ID: use id-hex: for one that has a comma and a blank' \
     'text 13 SeveralIds'
 done
+date_in_id='a day in a key ID ends nothing: begin the line with until YYYY-MM-DD, or use id-hex: for '
+date_in_id+='a key ID that has one'
+for id in 'bob until 2026-11-15' 'until 2026-11-15' 'bob UNTIL 2026-11-15 # c' 'bob-until:2026-11-15' \
+  'bob uNtil=2026-11-15' 'until2026-11-15' 'bob until : = : 2026-11-15' 'bob until 2026-11-155' \
+  'bob until 2026-11-15 or so' 'until tomorrow until 2026-11-15' 'untiluntil 2026-11-15' \
+  'bob until 2026-02-30' 'bob until 0000-00-00' 'bob until 9999-99-99' 'bob until 1969-12-31' \
+  'until the day until 2026-11-15' 'bob (until 2026-11-15)'; do
+  names_nobody "$id" "$date_in_id" 'text 21 DateInId'
+done
+for id in 'bob until tomorrow' until 'until 2026' 'bob until 2026-11' 'bob until 2026-1-15' \
+  'bob until 26-11-15' 'bob until 15.11.2026' 'bob until 20261115' 'bob until 2026/11/15' \
+  'bob until the 2026-11-15' 'bob until-2026-11-15' 'bob until,2026-11-15' 'bob until 12026-11-15' \
+  'bob 2026-11-15' '2026-11-15 until' 'unti 2026-11-15' 'bob til 2026-11-15' 'until 2O26-11-15' \
+  'until 2026-11-1'; do
+  names "the key ID $id" "ca: all\nid: $id\n" 'ca: all' "id: $id"
+done
+names 'key IDs with a day, in digits' "ca: all\nid-hex: $(text 'bob until 2026-11-15')\n\
+id-hex: $(text 'bob until 2026-02-30')\n" 'ca: all' "id-hex: $(text 'bob until 2026-02-30')" \
+  "id-hex: $(text 'bob until 2026-11-15')"
+dated=$(certificate "$G" "$A" 0000000000000000 'bob until 2026-11-15')
+names 'a certificate with a day in its key ID' \
+  "$(line ssh-ed25519-cert-v01@openssh.com "$dated")\n" "ca: $a" \
+  "id-hex: $(text 'bob until 2026-11-15')"
 refuses 'odd digits' 2 'no pairs of hexadecimal digits' 'text 5 Hex' 'ca: all\nid-hex: 656\n'
+# A last day behind an entry.
+day_first='a last day comes first on a line: until YYYY-MM-DD'
+for day in 'until 2026-11-14' 'UNTIL: 2026-11-14' 'until=2026-11-31' 'until2026-11-14 # c' \
+  'or until 2026-11-14x'; do
+  for entry in 'serial: 5' 'serial: 5-7' 'serial:' 'SERIAL: 0x1f' 'serial: 1f3'; do
+    refuses "$entry $day" 2 "$day_first" 'text 1 Spec, spec 1 Number' "ca: all\n$entry $day\n"
+    refuses "@users $entry $day" 2 "$day_first" 'text 1 Spec, spec 1 Number' \
+      "@users: $a\n@users $entry $day\n"
+    refuses "a last day before and behind $entry: $day" 2 "$day_first" \
+      'text 1 Spec, spec 1 Number' "ca: all\nuntil 2026-11-14 $entry $day\n"
+  done
+  for entry in 'id-hex: 6162' 'id-hex:' 'ID-HEX: 6'; do
+    refuses "$entry $day" 2 "$day_first" 'text 5 Hex' "ca: all\n$entry $day\n"
+    refuses "@all $entry $day" 1 "$day_first" 'text 5 Hex' "@all $entry $day\n"
+  done
+done
+# The zero of a month is not that of a serial number.
+for day in 'until 2026-01-15' 'UNTIL=2026-09-30' 'until 2026-00-00'; do
+  refuses "serial: 5 $day" 2 "$day_first" 'text 11 LeadingZero' "ca: all\nserial: 5 $day\n"
+  refuses "@all serial: 5-7 $day" 1 "$day_first" 'text 1 Spec, spec 1 Number' \
+    "@all serial: 5-7 $day\n"
+done
+for day in until 'until tomorrow' 'until 2026-11-1' 'until the 2026-11-14' '2026-11-14' \
+  'unti 2026-11-14'; do
+  refuses "a serial number and no last day: $day" 2 'a serial number is a number below 2^64' \
+    'text 1 Spec, spec 1 Number' "ca: all\nserial: 5 $day\n"
+  refuses "a key ID in digits and no last day: $day" 2 'no pairs of hexadecimal digits' \
+    'text 5 Hex' "ca: all\nid-hex: 6162 $day\n"
+done
+lacks_ca 'a last day behind a serial number without a CA' 1 'serial: 5 until 2026-11-14\n'
 refuses 'digits that are none' 2 'no pairs of hexadecimal digits' 'text 5 Hex' \
   'ca: all\nid-hex: 6g\n'
 refuses 'a CA that is a certificate' 1 'a CA is given by its key, and not by a certificate' \
@@ -629,14 +682,14 @@ other_key 'a name with another key' 3 1 "@users: $a\n# c\n@users: $b\n"
 other_key 'a name with another key behind the same one again' 5 2 \
   "\n@users: $a\n@users: $a c\n@users serial: 5\n@users: $b\n"
 no_key='text 1 Spec, spec 6 Key, line 1 NoKey'
-for given in '' ALL everyone @users 'two words.pub' "no-pty $a" "cert-authority $a" \
+for given in "$f" "$f # of a" '' ALL everyone @users 'two words.pub' "no-pty $a" "cert-authority $a" \
   "restrict,command=\"a: b\" $a" "* $a" "@cert-authority * $a" ": $a" 'all CAs' 'serial' 'serial 5' \
   'serial : 5' 'seral: 5' 'users: 5'; do
   refuses "'${given:0:30}' behind the name of a CA" 2 'no key type stands there' "$no_key" \
     "@users: $a\n@users: $given\n"
 done
 for given in all 'all # c' 'serial: 5' 'SeRiAl:5' 'serial: x' 'id: bob' 'id-hex: 61' "ca: $a" \
-  'ca: all' 'ca-blob: eA==' "key: $g" "sha1: $g" "hash: $f" 'id:' "$f"; do
+  'ca: all' 'ca-blob: eA==' "key: $g" "sha1: $g" "sha256: $g" "hash: $f" 'id:'; do
   refuses "an entry behind @NAME and a colon: '${given:0:30}'" 2 \
     'behind @NAME and a colon comes a key: an entry has no colon there' "$no_key" \
     "@users: $a\n@users: $given\n"
@@ -688,7 +741,8 @@ no_name 'a name with a carriage return' 2 'users\x0d' ': did you mean "users" (t
   "@users: $a\n@users\r serial: 5\n"
 no_name 'a name that is not ASCII' 1 $'zo\303\253' '' '@zo\303\253 serial: 5\n'
 no_name 'a name that is not UTF-8' 1 'zo\xeb' '' '@zo\353 serial: 5\n'
-for entry in 'serial: 0' 'serial: 010' 'serial: 12ab' 'id:' 'id: "a"' 'id: eve#1' 'id-hex: 6'; do
+for entry in 'serial: 0' 'serial: 010' 'serial: 12ab' 'id:' 'id: "a"' 'id: eve#1' 'id-hex: 6' \
+  'id: bob until 2026-11-15' 'serial: 5 until 2026-11-15'; do
   no_name "an unknown name before $entry" 1 nobody '' "@nobody $entry\n"
 done
 
@@ -729,6 +783,12 @@ meant_behind 'an equals sign instead of the colon behind a name' serial serial '
 meant_behind 'another byte in a word behind a name' id_hex id-hex '@users id_hex: 61'
 meant_behind 'a word with a byte that a terminal obeys, behind a name' 'id\x1b' id '@users id\033: a'
 meant_behind 'a misspelt word behind an unknown name' seral serial '@nobody seral: 1'
+# No word of keys, hashes and CAs is meant there.
+for it in 'keys: x' "kye: $g" "KEY $g" 'key-blobs: AQ==' 'ca all' 'cas: all' "ac: $b" 'ca-blo: eA==' \
+  "sha-1: $g" "sha255: $g" "hahs: $f" 'hash x'; do
+  behind "${it:0:20} behind a name" "@users $it"
+  behind "${it:0:20} behind an unknown name and a last day" "until 2026-11-15 @nobody $it"
+done
 # Entries that are wrong behind a name as without one, and as long as they count as later.
 while IFS='|' read -r entry words fault <&3; do
   for name in users all; do
@@ -751,6 +811,10 @@ id: a\tb|a key ID has a control character, such as a tab or a carriage return: u
 id: ssh-rsa of bob|a key stands where a key ID belongs: use key:, or id-hex: for a key ID that begins so|text 10 KeyAsId
 id: "bob"|a key ID has no quotes around it: use id-hex: for one that has them|text 12 QuotedId
 id: a, b|a line has one key ID: use id-hex: for one that has a comma and a blank|text 13 SeveralIds
+id: bob until 2026-11-15|a day in a key ID ends nothing: begin the line with until YYYY-MM-DD, or use id-hex: for a key ID that has one|text 21 DateInId
+id: bob until:2026-02-30 # c|a day in a key ID ends nothing: begin the line with until YYYY-MM-DD, or use id-hex: for a key ID that has one|text 21 DateInId
+serial: 5 until 2026-11-14|a last day comes first on a line: until YYYY-MM-DD|text 1 Spec, spec 1 Number
+id-hex: 6162 until 2026-11-14|a last day comes first on a line: until YYYY-MM-DD|text 5 Hex
 id-hex: 656|no pairs of hexadecimal digits|text 5 Hex
 id-hex: 00|OpenSSH takes no key ID with a zero byte: use serial:|text 9 ZeroInId
 ROWS
@@ -794,17 +858,55 @@ refuses_texts "second: line 3: $no_ca" gives second uses
 refuses_texts "$unknown_name [text 16 UnknownName]" -u uses
 run make -q --replace -f made.krl gives uses
 cp made.krl before.krl
-expect 'what texts with names would change' 0 "  ca: $a # $(fingerprint "$A")
-+ id: a
+by_name="  @users: $a # $(fingerprint "$A")"
+expect 'what texts with names would change' 0 "$by_name
++ @users id: a
+  ca: all
+- id: c
+$by_name
+- @users serial: 5
+" $'krl make: made.krl: version 2: 1 CA, 1 key ID; 1 serial number, 1 key ID are no longer revoked\n' \
+  make -n -f made.krl gives gives-again
+expect 'an update by texts with names that would add' 0 "$by_name
++ @users id: a
+" '' make -nqu -f made.krl gives-again
+expect 'the same through standard input' 0 "$by_name
++ @users id: a
+" '' make -nqu -f made.krl - <gives-again
+printf '@hosts: %s\n@zed: %s\n@Users: %s\n' "$b" "$b" "$a" >gives-more
+printf 'ca: %s\nserial: 8\nid: h\nca: all\nserial: 9\nkey: %s\n' "$b" "$a" >uses-none
+expect 'the first of several names, and the name of a CA that a ca: line gives' 0 "  ca: all
++ serial: 9
+  @hosts: $b # $(fingerprint "$B")
++ @hosts serial: 8
++ @hosts id: h
++ key: $a # $(fingerprint "$A")
+  ca: all
+- id: c
+  @Users: $a # $(fingerprint "$A")
+- @Users serial: 5
+" '' make -nq -f made.krl gives gives-more uses-none
+expect 'the same with --replace, by texts in another order' 0 "  ca: all
++ serial: 9
+  @hosts: $b # $(fingerprint "$B")
++ @hosts serial: 8
++ @hosts id: h
++ key: $a # $(fingerprint "$A")
+" '' make -nq --replace -f made.krl uses-none gives-more gives
+expect 'what texts without names would change' 0 "  ca: all
++ serial: 9
+  ca: $b # $(fingerprint "$B")
++ serial: 8
++ id: h
++ key: $a # $(fingerprint "$A")
   ca: all
 - id: c
   ca: $a # $(fingerprint "$A")
 - serial: 5
-" $'krl make: made.krl: version 2: 1 CA, 1 key ID; 1 serial number, 1 key ID are no longer revoked\n' \
-  make -n -f made.krl gives gives-again
-expect 'an update by texts with names that would add' 0 "  ca: $a # $(fingerprint "$A")
-+ id: a
-" '' make -nqu -f made.krl gives-again
+" '' make -nq -f made.krl uses-none
+expect 'the name of a CA that the new list lacks' 0 "$by_name
+- @users serial: 5
+" '' make -nq -f made.krl gives - <<<'@all id: c'
 expect 'what a text with an unknown name would change' 255 '' \
   "krl: $unknown_name [text 16 UnknownName]"$'\n' make -n -f made.krl uses
 judge 'the list after names and -n' "$(asks 0 cmp before.krl made.krl)"
@@ -1016,46 +1118,64 @@ for it in 'untiill: 5' 'nutli 2026-11-15 serial: 5' 'until2026-11-15 serial: 5' 
   unknown "'$it'" "$it"
 done
 
-# A day in the comment of an entry.
+# A day in the comment of an entry, which the calendar may not have.
 in_comment() {
   refuses "$1" "${3:-2}" 'a day in a comment ends nothing: begin the line with until YYYY-MM-DD' \
     'text 20 DateInComment' "$2"
 }
-for it in 'serial: 5' 'id: a' 'id-hex: 61' '@users serial: 5' '@all id: a' '@users id-hex: 61' \
-  "$certificate" "$by_id of bob" "key: $g" "key: $certificate" 'key-blob: AQ==' "sha1: $g" \
-  "SHA256: $g" "hash: $f" "$sha1" "$g" "$g of alice" 'SERIAL:5-7'; do
-  in_comment "a day in the comment of ${it:0:40}" "@users: $a\nca: all\n$it # until 2027-01-01\n" 3
+# of_key NAME TEXT [LINE]: the same of a key or a hash.
+of_key() {
+  refuses "$1" "${3:-2}" 'a key has no last day: take the day out of its comment' \
+    'text 20 DateInComment' "$2"
+}
+for day in 2027-01-01 2026-02-30; do
+  for it in 'serial: 5' 'id: a' 'id-hex: 61' '@users serial: 5' '@all id: a' '@users id-hex: 61' \
+    "$certificate" "$by_id of bob" 'SERIAL:5-7'; do
+    in_comment "$day in the comment of ${it:0:40}" "@users: $a\nca: all\n$it # until $day\n" 3
+  done
+  for it in "key: $g" "key: $certificate" 'key-blob: AQ==' "sha1: $g" "SHA256: $g" "hash: $f" "$sha1" \
+    "$g" "$g of alice" "\t$a"; do
+    of_key "$day in the comment of ${it:0:40}" "@users: $a\nca: all\n$it # until $day\n" 3
+  done
 done
 for it in '#until 2026-11-15' '# UNTIL: 2026-11-15' '# uNtil=2026-11-15' '# until2026-11-15' \
   '#\tuntil \t:= :2026-11-15' '# OPS-1210 until 2026-11-15' '# until 2026-11-15, or so' \
   '# a # b # until 1999-12-31' '# until 9999-12-31\r' '# until 0000-02-29' '# until 2028-02-29' \
   '# until tomorrow, until 2026-11-15' '# until 2026-02-29 until 2026-03-01' \
   '# untiluntil 2026-11-15' '# until until 2026-11-15' '# valid-until:2026-11-15T12:00' \
-  '# since 2001-01-01 until 2026-11-155' '# zo\353 until 2026-11-15' '#\000until 2026-11-15'; do
+  '# since 2001-01-01 until 2026-11-155' '# zo\353 until 2026-11-15' '#\000until 2026-11-15' \
+  '# until 2026-02-30' '# until 2026-02-29' '# until 2026-11-31' '# until:2026-13-01' \
+  '# until 0000-00-00' '# until 9999-99-99' '# UNTIL 2026-00-10'; do
   in_comment "the comment '$it'" "ca: all\nserial: 5 $it\n"
+  of_key "the comment '$it' behind a key" "ca: all\nkey: $g $it\n"
 done
 # It comes before other faults of the line.
 for it in 'serial: 0' 'serial: 010' 'serial: x' 'serial: 1f3' 'serial: 2-1' 'id:' 'id: "a"' 'id: a, b' \
-  'id: a\tb' 'id-hex: 6' 'id-hex: 00' '@users serial: 0' '@nobody serial: 5' '@ id: a' 'key: alice.pub' \
-  "key: no-pty $g" 'key:' 'key-blob: x' 'hash: x' 'ssh-ed25519' "ssh-rsa ${g#* }" \
-  'ssh-ed25519-cert-v01@openssh.com'; do
+  'id: a\tb' 'id-hex: 6' 'id-hex: 00' '@users serial: 0' '@nobody serial: 5' '@ id: a' \
+  'ssh-ed25519-cert-v01@openssh.com' 'id: bob until 2026-11-15' 'serial: 5 until 2026-11-15'; do
   in_comment "a day in the comment behind ${it:0:40}" "@users: $a\n$it # until 2026-11-15\n"
+done
+for it in 'key: alice.pub' "key: no-pty $g" 'key:' 'key-blob: x' 'hash: x' 'ssh-ed25519' \
+  "ssh-rsa ${g#* }"; do
+  of_key "a day in the comment behind ${it:0:40}" "@users: $a\n$it # until 2026-11-15\n"
 done
 in_comment 'a day in the comment of a serial number without a CA' 'serial: 5 # until 2026-11-15\n' 1
 in_comment 'a day in a comment that cuts a key ID short' 'ca: all\nid: eve#until 2026-11-15\n'
-in_comment 'a day in a comment on a first line' "$g # until 2026-11-15" 1
+of_key 'a day in a comment on a first line' "$g # until 2026-11-15" 1
 # Comments that say nothing of the kind, and those of other lines.
-for it in '# until' '# until tomorrow' '# until 2026-02-29' '# until 2026-11-31' '# until 2026-1-15' \
+for it in '# until' '# until tomorrow' '# until 2026/02/28' '# until 12026-11-15' '# until 2026-1-15' \
   '# until 15.11.2026' '# until the 2026-11-15' '# until. 2026-11-15' '# until-2026-11-15' \
   '# until # 2026-11-15' '# until\r2026-11-15' '# till 2026-11-15' '# 2026-11-15 until' \
   '# unti 2026-11-15' '# expires 2026-11-15' '# until 2026-11-1' '# until 20261115'; do
   names "the comment '$it'" "ca: all\nserial: 5 $it\n" 'ca: all' 'serial: 5'
 done
-names 'days in comments of lines that name no entry' "# until 2026-11-14\n\t#until: 2026-11-14\n\
+names 'days in comments of lines that name no entry' "# until 2026-02-30\n\t#until: 2026-11-14\n\
 @users: $a # until 2026-11-14\n@users: $a until 2026-11-14 # until 2026-11-14\n\
 ca-blob: eA== # until 2026-11-14\nca: $a of a # until 2026-11-14\nca: all # until 2026-11-14\n\
 serial: 5\n# until 2026-11-14" 'ca: all' 'serial: 5'
 names 'a day in the comment of a key that no # begins' "$g of alice until 2026-11-14\n" "key: $g"
+names 'a day in the comment of a CA, also one that is named again' \
+  "@users: $a # until 2026-02-30\n@users: $a # until 2026-11-14\n@users id: a\n" "ca: $a" 'id: a'
 printf 'serial: 5 # until 2001-02-03\n' >spec
 judge 'a specification file may have such a comment' "$(asks 0 "$keygen" -k -f spec.krl -s none spec)"
 has_until='until 2026-11-15 serial: 5'
@@ -1215,7 +1335,8 @@ list 'a list without sections'
 list 'the last serial number' 010000001d${all}21000000100000000000000001ffffffffffffffff
 list 'a bitmap' 010000001a${all}220000000d00000000000000010000000155
 for digits in 616161 '' 20 2061 6120 610962 610a62 6523 7f c3a9 0d 2d2d 7373682d727361 \
-  7373682d7273612041 22 27 2222 2727 22626f6222 27626f6227 22626f6227 612c2062 2c20 612c62; do
+  7373682d7273612041 22 27 2222 2727 22626f6222 27626f6227 22626f6227 612c2062 2c20 612c62 \
+  "$(text 'bob until 2026-11-15')" "$(text 'UNTIL:=0000-00-00')" "$(text 'until 2026-1-15')"; do
   list "the key ID of the bytes '$digits'" \
     "01$(string "${all}23$(string "$(string $digits)")")"
 done

@@ -235,10 +235,26 @@ mv kept.krl revoked.krl
 cp revoked.krl old.krl
 lines_under user-ca.pub 'serial: 6-8' host-ca.pub 'id: host\nserial: 99' >revoked.txt
 "$krl" make -q -f revoked.krl revoked.txt
+# of_name NAME FILE: the line of the authority by this name, as it is shown.
+of_name() {
+  printf '@%s: %s # %s' "$1" "$(cut -d ' ' -f 1,2 "$2")" "$("$openssh" -l -f "$2" | cut -d ' ' -f 2)"
+}
 follows 'two lists are compared' 'krl diff old.krl' 1 "  $(grep -F "$host" <("$krl" show old.krl))
 + serial: 99
   $(grep -F "$user" <("$krl" show old.krl))
 - serial: 9"
+sed 's/^/@user-ca: /' user-ca.pub >>revoked.txt
+follows 'two lists are compared by the name of one authority' 'krl diff --names' 1 \
+  "  $(grep -F "$host" <("$krl" show old.krl))
++ serial: 99
+  $(of_name user-ca user-ca.pub)
+- @user-ca serial: 9"
+sed 's/^/@host-ca: /' host-ca.pub >>revoked.txt
+follows 'two lists are compared by the names of both authorities' 'krl diff --names' 1 \
+  "  $(of_name host-ca host-ca.pub)
++ @host-ca serial: 99
+  $(of_name user-ca user-ca.pub)
+- @user-ca serial: 9" again
 need git git || judge 'git is there' '  install git'
 mkdir lists && cp old.krl lists/r.krl && (
   cd lists && git init -q && echo '*.krl diff=krl' >.gitattributes && git add . &&
@@ -269,7 +285,7 @@ stays 'the merged list stays, too' both.krl
 
 # ---- the entries of one authority
 
-ours='krl show revoked.krl | awk'
+ours='krl show revoked.krl | awk' named='krl show --names revoked.txt'
 # shown_ca FILE: the line of the authority as it is shown.
 shown_ca() {
   printf 'ca: %s # %s' "$(cut -d ' ' -f 1,2 "$1")" "$("$openssh" -l -f "$1" | cut -d ' ' -f 2)"
@@ -284,6 +300,14 @@ serial: 6-9"
 } | "$krl" make -q -f revoked.krl -
 entries=$(shown_ca user-ca.pub)$'\nserial: 1\nid-hex: 2362\nid: bob'
 follows 'the entries of an authority among others' "$ours" 0 "$entries" again
+{ sed 's/^/@user-ca: /' user-ca.pub && sed 's/^/@user-ca2: /' host-ca.pub; } >revoked.txt
+follows 'the entries of an authority by its name' "$named" 0 '@user-ca serial: 1
+@user-ca id-hex: 2362
+@user-ca id: bob'
+sed 's/^/@user-ca: /' alice.pub >revoked.txt
+follows 'the entries of a name whose key the list has not as an authority' "$named" 1 '' again
+echo '@user-ca serial: 5' >revoked.txt
+follows 'the entries of an authority by a text with a fault' "$named" 1 '*' again
 cp user-ca.pub its.pub
 head -c -1 its.pub >user-ca.pub
 follows 'the entries of an authority whose file has no line end' "$ours" 0 "$entries" again

@@ -1,4 +1,5 @@
-# krl show: each kind of line, beside what OpenSSH prints of the list, and lists that are not read.
+# krl show: each kind of line, the names of CAs, beside what OpenSSH prints of the list, and lists
+# that are not read.
 
 keygen=$program
 program=$krl
@@ -43,6 +44,16 @@ for id in '"bob"' "'bob'" '""' "''" '"a" b "c"' 'a, b' ', b' '"a", b'; do
   ids "the key ID $id" "id-hex: $(text "$id")" "$(text "$id")"
 done
 for id in '"' "'" '"bob' "bob'" "\"bob'" "'a' b" 'a,b' 'a,' 'a ,b'; do
+  ids "the key ID $id" "id: $id" "$(text "$id")"
+done
+# What a line would take for a last day, though the calendar may not have it.
+for id in 'bob until 2026-11-15' 'until 2026-11-15' 'UNTIL:2026-11-15' 'bob until = 2026-02-30' \
+  'until0000-00-00' 'bob-until 9999-99-999' 'untiluntil 2026-11-15 or so' \
+  'until then, until:=2026-11-15'; do
+  ids "the key ID $id" "id-hex: $(text "$id")" "$(text "$id")"
+done
+for id in until 'bob until tomorrow' 'until 2026-1-15' 'until 15.11.2026' 'until the 2026-11-15' \
+  '2026-11-15 until' 'unti 2026-11-15' 'until-2026-11-15' 'until 12026-11-15' 'until 2026-11-1'; do
   ids "the key ID $id" "id: $id" "$(text "$id")"
 done
 shows 'a CA' "ca: $(line ssh-ed25519 "$A") # $(fingerprint "$A")"$'\nserial: 7\n' \
@@ -123,6 +134,215 @@ judge 'a list that is read back without its name' "$(
   differs 'the text' "$("$program" show --no-name ca.krl | tail -n +2)" \
     "$("$program" show --no-name again.krl | tail -n +2)"
 )"
+
+# The names that texts give to CAs. Those of the list are of five sorts, and one of them is a key of
+# the list, too.
+a=$(line ssh-ed25519 "$A") b=$(line ssh-ed25519 "$B")
+R=$(rsa "$(string 010001)" "$(string 00"$(repeat 256 c1)")")
+P=$(ecdsa 256 "04$(repeat 64 5a)")
+r=$(line ssh-rsa "$R") p=$(line ecdsa-sha2-nistp256 "$P")
+# of_ca BLOB DIGITS..: a section of certificates.
+of_ca() {
+  printf 01
+  string "$(string "$1")" 00000000 "${@:2}"
+}
+ids_of() {
+  printf 23
+  string "$(words "$@")"
+}
+bytes "$H" "$(of_ca '' 20 00000008 0000000000000007 "$(ids_of all)")" \
+  "$(of_ca "$A" 20 00000008 0000000000000005 "$(ids_of bob 'eve#1')")" \
+  "$(of_ca "$B" 21 00000010 0000000000000064 00000000000000c7 "$(ids_of bob)")" \
+  "$(of_ca "$R" "$(ids_of x)")" "$(of_ca "$P" 20 00000008 0000000000000009)" \
+  "$(of_ca 78 "$(ids_of odd)")" "$(section "$G" "$A")" \
+  05 00000024 00000020 "$(bytes "$B" | sha256sum | cut -c1-64)" >cas.krl
+# named NAME LINES WORD..: of this list, where the CA of each variable has such a name, or none.
+named() {
+  local it mark blob label key lines out="# cas.krl: $head"$'\nca: all\nserial: 7\nid: all\n'
+  for it in "R:$of_r:$r:id: x" "A:$of_a:$a:serial: 5|id: bob|id-hex: 6576652331" \
+    "B:$of_b:$b:serial: 100-199|id: bob" "P:$of_p:$p:serial: 9"; do
+    IFS=: read -r blob label key lines <<<"$it"
+    mark=${label:+@$label }
+    out+="${label:+@}${label:-ca}: $key # $(fingerprint "${!blob}")"$'\n'
+    out+="$mark${lines//|/$'\n'$mark}"$'\n'
+  done
+  out+=$'ca-blob: eA==\nid: odd\n'"key: $a # $(fingerprint "$A")"$'\n'"key: $g # $f"$'\n'
+  expect "$1" 0 "${out}hash: $(fingerprint "$B")"$'\n' '' show "${@:2}"
+}
+of_r='' of_a='' of_b='' of_p=''
+named 'a list of six CAs, without names' cas.krl
+printf '# c\n@users: %s of a # c\n@all serial: 12\n@users id: x\nkey: %s\n' "$a" "$a" >of-a
+printf '@rsa-ca: %s\n@ec.1: %s\n' "$r" "$p" >of-others
+printf '@hosts: %s\nca: %s\nserial: 6\nid: bob\n' "$b" "$a" >of-b
+printf '@nobody: %s\n@nobody serial: 5-7\n@nobody id: bob\n' "$g" >of-none
+printf 'ca: %s\nserial: 5\nid: bob\n@all id: a\n' "$a" >without
+named 'a text that names no CA' --names without cas.krl
+named 'the name of a CA that the list lacks, and whose key it has' --names of-none cas.krl
+of_a=users
+named 'the name of one CA of several' --names of-a cas.krl
+of_r=rsa-ca of_a='' of_p=ec.1
+named 'the names of a CA with RSA and one with ECDSA' --names of-others cas.krl
+of_a=users
+named 'two texts with names' --names of-a --names of-others cas.krl
+named 'the same in another order, around the list' --names of-others cas.krl --names of-a
+of_b=hosts
+named 'several texts, of which two say nothing of these CAs' --names of-none --names of-a \
+  --names without --names of-others --names of-b cas.krl
+expect 'lists by the names of one text' 0 "# r.krl: $head
+key: $g # $f
+# ca.krl: $head
+@users: $a # $(fingerprint "$A")
+@users serial: 100-199
+@users id: bob
+# g\\x1b.pub: a plain list
+key: $g # $f
+# ca.krl: $head
+@users: $a # $(fingerprint "$A")
+@users serial: 100-199
+@users id: bob
+" '' show --names of-a r.krl ca.krl $'g\e.pub' ca.krl
+expect 'a name, and lists without theirs' 0 "# $head
+@users: $a # $(fingerprint "$A")
+@users serial: 100-199
+@users id: bob
+key: $g # $f
+" '' show --no-name ca.krl --names of-a $'g\e.pub'
+
+# A later text may use the names of an earlier one, as in krl make.
+printf '@users serial: 1\n' >uses-a
+of_r='' of_b='' of_p=''
+named 'a text that uses the name of the one before it' --names of-a --names uses-a cas.krl
+printf 'until 2001-02-03 @users serial: 5\nuntil 2999-01-01 @users serial: 6\n' >ends-a
+named 'a text with an entry that is over' --names of-a --names ends-a cas.krl
+{
+  printf '@users: %s\r\n\t@users:\t%s again # until 2001-02-03\r\n' "$a" "$a" && head -c -1 of-a
+} >twice
+named 'a name that is given more than once' --names twice --names of-a cas.krl
+
+# Of several names the first one in the order of their bytes.
+# first_of NAME NAME..: this name is the first of these, in whatever order texts give them.
+first_of() {
+  of_a=$1
+  for it in "${@:2}"; do printf '@%s: %s\n' "$it" "$a"; done >several
+  named "the first of the names ${*:2}" --names several cas.krl
+  tac several >others
+  named "the first of them, which are given in another order" --names others cas.krl
+  head -n 1 several >one && tail -n +2 several >others
+  named "the first of them, which are in two texts" --names others --names one cas.krl
+  named "the first of them, in the other order of texts" --names one --names others cas.krl
+}
+first_of a10 b a10 a9 c
+first_of B b B a
+first_of us users us user
+first_of user-ca user_ca userca user.ca user-ca
+first_of -z z 0 -z _
+first_of ALL al ALL alle
+of_a=''
+
+# Standard input has a text, or a list.
+of_a=users
+named 'a text with names on standard input' --names - cas.krl <of-a
+named 'a text through a pipe' cas.krl --names - < <(cat of-a)
+of_r=rsa-ca of_p=ec.1
+named 'a text on standard input beside another' --names of-others cas.krl --names - <of-a
+expect 'a list on standard input, and a text with names' 0 "# -: $head
+@users: $a # $(fingerprint "$A")
+@users serial: 100-199
+@users id: bob
+" '' show --names of-a - <ca.krl
+for words in '--names - -' '- --names -' '--names - --names - cas.krl' \
+  '--names of-a --names - r.krl -'; do
+  # shellcheck disable=SC2086
+  expect_text "standard input twice: show $words" 2 error show $words <of-a
+done
+cp of-a ./-
+named 'a text in a file called -' --names ./- --names of-others cas.krl </dev/null
+rm ./-
+
+# Texts that are not read. Nothing is printed.
+printf '@users: %s\n# c\n@users: %s\n' "$a" "$b" >other-key
+printf '@hosts: %s\n@users serial: 0\n' "$b" >zero
+printf '@user serial: 5\n' >slip
+printf '@users: %s\n@users id: bob until 2026-02-30\n' "$a" >dated
+printf 'serial: 5\n' >bare
+while IFS='|' read -r words said <&3; do
+  for json in '' --json; do
+    # shellcheck disable=SC2086
+    expect "names that are refused: $words $json" 255 '' "krl: $said"$'\n' show $json $words <zero
+  done
+done 3<<'ROWS'
+--names other-key cas.krl|other-key: line 3: the name "users" has another key: other-key, line 1 [text 15 OtherKey]
+cas.krl --names of-a --names other-key|other-key: line 3: the name "users" has another key: of-a, line 2 [text 15 OtherKey]
+--names zero cas.krl|zero: line 2: no CA is named "users" above [text 16 UnknownName]
+--names of-a r.krl --names zero|zero: line 2: serial number 0 names no certificate [text 1 Spec, spec 2 Zero]
+--names of-a --names - r.krl|-: line 2: serial number 0 names no certificate [text 1 Spec, spec 2 Zero]
+--names of-a --names slip cas.krl|slip: line 1: no CA is named "user" above: did you mean "users" (of-a, line 2)? [text 16 UnknownName]
+--names uses-a --names of-a cas.krl|uses-a: line 1: no CA is named "users" above: did you mean "users" (of-a, line 2)? [text 16 UnknownName]
+--names dated cas.krl|dated: line 2: a day in a key ID ends nothing: begin the line with until YYYY-MM-DD, or use id-hex: for a key ID that has one [text 21 DateInId]
+--names bare cas.krl|bare: line 1: no CA is given: by @NAME before the word, or by a ca: line with no key or hash between [text 1 Spec, spec 4 NoAuthority]
+--names missing cas.krl|missing: No such file or directory [file 1 Open]
+--names of-a --names missing --names zero cas.krl|missing: No such file or directory [file 1 Open]
+ROWS
+run show --names cas.krl cas.krl
+judge 'a list instead of a text with names' "$(
+  differs 'exit status' 255 "$got_status"
+  differs 'standard output' '' "$got_output"
+  grep -q '^krl: cas\.krl: .*\]$' "$scratch/error" || cat "$scratch/error"
+)"
+
+# JSON has the name behind the CA, and none where there is none.
+expect 'JSON by names' 0 '{"list":"cas.krl","version":"1",'"$printed"'
+{"ca":"all","serial":["7","7"]}
+{"ca":"all","id":"all"}
+{"ca":"'"$(fingerprint "$R")"'","name":"rsa-ca","id":"x"}
+{"ca":"'"$(fingerprint "$A")"'","name":"users","serial":["5","5"]}
+{"ca":"'"$(fingerprint "$A")"'","name":"users","id":"bob"}
+{"ca":"'"$(fingerprint "$A")"'","name":"users","id":"eve#1"}
+{"ca":"'"$(fingerprint "$B")"'","serial":["100","199"]}
+{"ca":"'"$(fingerprint "$B")"'","id":"bob"}
+{"ca":"'"$(fingerprint "$P")"'","name":"ec.1","serial":["9","9"]}
+{"ca":"'"$(fingerprint 78)"'","id":"odd"}
+{"key":"'"$(fingerprint "$A")"'"}
+{"key":"'"$f"'"}
+{"hash":"'"$(fingerprint "$B")"'"}
+{"status":"done","lists":1,"cas":6,"serials":"103","ids":6,"keys":2,"hashes":1}
+' '' show --json --names of-a --names of-others cas.krl
+expect 'JSON by names, of lists without theirs' 0 '{"version":"1",'"$printed"'
+{"ca":"'"$(fingerprint "$A")"'","name":"users","serial":["100","199"]}
+{"ca":"'"$(fingerprint "$A")"'","name":"users","id":"bob"}
+{"status":"done","lists":1,"cas":1,"serials":"100","ids":1,"keys":0,"hashes":0}
+' '' show --names of-a --no-name --json ca.krl
+
+# What is shown by names makes the same list.
+for words in '' '--names of-a' '--names of-others' '--names of-a --names of-others --names of-b' \
+  '--names several' '--names of-none'; do
+  # shellcheck disable=SC2086
+  "$program" show $words cas.krl >text
+  rm -f again.krl
+  run make -q -f again.krl text
+  judge "a list that is read back, shown with '$words'" "$(
+    differs 'standard error' '' "$got_error"
+    asks 0 "$program" diff cas.krl again.krl
+    # shellcheck disable=SC2086
+    asks 0 diff <(tail -n +2 text) <("$program" show $words again.krl | tail -n +2)
+  )"
+done
+judge 'and names its own CAs' "$(
+  "$program" show --names of-a --names of-others --names of-b cas.krl >text
+  asks 0 diff text <("$program" show --names text cas.krl)
+)"
+for words in '--names' 'cas.krl --names' '--names of-a' '--name of-a cas.krl'; do
+  # shellcheck disable=SC2086
+  run show $words
+  judge "the words 'show $words'" "$(
+    differs 'exit status' 2 "$got_status"
+    differs 'standard output' '' "$got_output"
+  )"
+done
+for words in 'check cas.krl --names of-a' 'make -n -f cas.krl --names of-a text'; do
+  # shellcheck disable=SC2086
+  expect_text "no names of $words" 2 error $words
+done
 
 # Standard input.
 expect 'a list on standard input' 0 "# -: $head

@@ -82,7 +82,11 @@ impl<'q, 'w, W: Screen> Round<'q, 'w, W> {
     }
 
     /// The counts so far.
-    pub(crate) fn summary(&self) -> Summary {
+    pub(crate) fn summary(&self) -> Summary
+        ensures files { result.files ≡ self.now.tally.files.counts }
+        ensures revoked { result.revoked_files ≡ self.now.tally.files.revoked }
+        ensures counts { result.counts ≡ self.now.tally.counts }
+    {
         Summary {
             files: self.files.counts,
             revoked_files: self.files.revoked,

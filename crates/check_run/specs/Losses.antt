@@ -25,7 +25,7 @@ pub record AreLost (own others : List Entry) (lost : Revocations) : Type 0 where
 
 -- the lines of what is lost, and how many entries they are
 abbrev pub lost_form : Format → TextForm
-lost_form form = if is_json form then JsonChange Removed else Change Removed
+lost_form form = if is_json form then JsonChange Removed None else Change Removed None
 
 abbrev pub lost_items : Format → List ℕ → Lost → List Item
 lost_items form name lost =

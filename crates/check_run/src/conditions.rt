@@ -189,11 +189,11 @@ fn say_lost<'a, W: Sink>(
 }
 
 // The form of the lines of what is lost.
-fn lost_form(form: Format) -> TextForm
+fn lost_form(form: Format) -> TextForm<'static>
     ensures { result ≡ lost_form form }
 {
     match form {
-        Format::Text | Format::Colour => TextForm::Change(Side::Removed),
-        Format::Json => TextForm::JsonChange(Side::Removed),
+        Format::Text | Format::Colour => TextForm::Change(Side::Removed, None),
+        Format::Json => TextForm::JsonChange(Side::Removed, None),
     }
 }

@@ -1,6 +1,6 @@
 -- The list that is made (krl(1), KRL MAKE).
 use Rattle.std.specs.Prelude.{◌≡◌, ℕ, Bool, true, false, List, map}
-use Rattle.std.specs.Borrow.{Bor}
+use Rattle.krl.specs.Names.{name_of, now_of}
 use Rattle.krl_arguments.specs.declared.task.Make.{Make}
 use Rattle.krl_entries.specs.Revocations.{Revocations}
 use Rattle.list_making.specs.Target.{Old}
@@ -15,12 +15,6 @@ abbrev pub over_of : (update replace : Bool) → Over
 over_of true replace = Contents
 over_of false true = Nothing
 over_of false false = Version
-
-abbrev pub name_of : Text → List ℕ
-name_of text = text.name
-
-abbrev pub now_of : Bor (List ℕ) → List ℕ
-now_of name = name.now
 
 -- These inputs are those of the task, with this date and these texts.
 pub record IsAsked (task : Make) (date : ℕ) (texts : List Text) (inputs : Inputs) : Type 0 where

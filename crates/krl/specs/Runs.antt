@@ -1,9 +1,12 @@
 -- The runs of the commands that print about lists. The files and the clock are those of the system,
 -- of which nothing is known: they told something.
-use Rattle.std.specs.Prelude.{◌≡◌, ℕ, Bool, true, false, List, Option, Result, Ok, Err}
+use Rattle.std.specs.Borrow.{Bor}
+use Rattle.std.specs.Prelude.{◌≡◌, ℕ, Bool, true, false, List, Option, option_map, Result, Ok}
+use Rattle.std.specs.Prelude.{Err}
 use Rattle.any_list.specs.Told.{Reading}
 use Rattle.check_run.specs.Run.{EndsCheckRun}
 use Rattle.check_run.specs.declared.limits.Unanswered.{Unanswered}
+use Rattle.krl.specs.Names.{AreNamesOf}
 use Rattle.krl_arguments.specs.declared.task.Check.{Check}
 use Rattle.krl_arguments.specs.declared.task.Diff.{Diff}
 use Rattle.krl_arguments.specs.declared.task.Show.{Show}
@@ -15,37 +18,44 @@ use Rattle.run_output.specs.declared.done.Done.{Done}
 use Rattle.show_run.specs.Comparison.{EndsDiffRun}
 use Rattle.show_run.specs.Run.{EndsShowRun}
 use Rattle.show_run.specs.declared.comparison.Comparison.{Comparison}
+use Rattle.text_entries.specs.AuthorityNames.{NamedKeys}
 
 -- the form in which lists are shown
-abbrev pub shown_form : (json no_name : Bool) → Form
-shown_form true false = Json
-shown_form true true = JsonUnnamed
-shown_form false false = Text
-shown_form false true = Unnamed
+abbrev pub shown_form : (json no_name : Bool) → Option (Bor NamedKeys) → Form
+shown_form true false names = Json names
+shown_form true true names = JsonUnnamed names
+shown_form false false names = Text names
+shown_form false true names = Unnamed names
 
--- The lists of the task were shown so, with this status.
-pub record IsShown (task : Show) (status : ℕ) : Type 0 where
-  pub told : List Reading
-  pub before : Option (List ℕ)
-  pub after : Option (List ℕ)
-  pub failed : Bool
-  pub fault : Option RunFault
-  pub ends
-      : EndsShowRun told task.lists.items (shown_form task.json task.no_name) before after failed
-      status fault
+-- the names that are lent
+abbrev pub names_now : Option (Bor NamedKeys) → Option NamedKeys
+names_now names = option_map (λ names. names.now) names
 
--- the lists that a task compares
-abbrev pub comparison_of : Diff → Comparison
-comparison_of task = record { old = task.old; new = task.new; json = task.json }
+-- The lists of the task were shown so, with this status, by the names that its texts give; or a
+-- text is refused.
+pub data IsShown (task : Show) (status : ℕ) : Type 0 where
+  unnamed : status ≡ 255 → IsShown task status
+  shown : (names : Option (Bor NamedKeys)) → AreNamesOf task.names.items (names_now names)
+      → (told : List Reading) → (before after : Option (List ℕ)) → (failed : Bool)
+      → (fault : Option RunFault)
+      → EndsShowRun told task.lists.items (shown_form task.json task.no_name names) before after
+      failed status fault
+      → IsShown task status
 
--- The lists of the task were compared so, with this status.
-pub record IsCompared (task : Diff) (status : ℕ) : Type 0 where
-  pub told : List Reading
-  pub before : Option (List ℕ)
-  pub after : Option (List ℕ)
-  pub failed : Bool
-  pub fault : Option RunFault
-  pub ends : EndsDiffRun told (comparison_of task) before after failed status fault
+-- the lists that a task compares, by these names
+abbrev pub comparison_of : Diff → Option (Bor NamedKeys) → Comparison
+comparison_of task names =
+    record { old = task.old; new = task.new; json = task.json; names = names }
+
+-- The lists of the task were compared so, with this status, by the names that its texts give; or a
+-- text is refused.
+pub data IsCompared (task : Diff) (status : ℕ) : Type 0 where
+  unnamed : status ≡ 255 → IsCompared task status
+  compared : (names : Option (Bor NamedKeys)) → AreNamesOf task.names.items (names_now names)
+      → (told : List Reading) → (before after : Option (List ℕ)) → (failed : Bool)
+      → (fault : Option RunFault)
+      → EndsDiffRun told (comparison_of task names) before after failed status fault
+      → IsCompared task status
 
 -- the status of a check: 255 if nothing was said about the list
 abbrev pub checked_status : Result Done Unanswered → ℕ

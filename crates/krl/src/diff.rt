@@ -4,6 +4,7 @@ ghost use Rattle.krl.specs.Runs.{IsCompared};
 
 use crate::Krl;
 use crate::loading::ListFiles;
+use crate::names::names_of;
 use byte_streams::ToWrite;
 use krl_arguments::Diff;
 use program_edge::end;
@@ -13,10 +14,15 @@ use show_run::{Comparison, diff_run};
 pub fn diff(rt: &HostRuntime, task: &Diff) -> u8
     ensures { IsCompared task.now result }
 {
+    let names = match names_of(rt, task.names.as_slice()) {
+        Ok(names) => names,
+        Err(status) => return status,
+    };
     let comparison = Comparison {
         old: task.old,
         new: task.new,
         json: task.json,
+        names: names.as_ref(),
     };
     let mut files = ListFiles { rt };
     let mut out = ToWrite::new(rt.stdout());

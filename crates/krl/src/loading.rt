@@ -4,7 +4,9 @@ ghost use Rattle.std.specs.Prelude.{◌≡◌, ◌<◌, IfOk, IfSome, OnErr, OnO
 ghost use Rattle.std.specs.Prelude.{vec_capacity, vec_len};
 ghost use Rattle.std.specs.Io.KnownBytes.{Consumes};
 ghost use Rattle.std.specs.IoError.{error_kind};
+ghost use Rattle.std.specs.Prelude.{map};
 ghost use Rattle.krl.specs.Loading.{IsRead};
+ghost use Rattle.krl.specs.Names.{name_of, now_of};
 
 use any_list::Lists;
 use audit_lines::Refusal;
@@ -17,7 +19,7 @@ use ssh_wire::Bytes;
 use std::alloc::{AllocError, Global};
 use std::fs::{self, File};
 use std::io::{self, ErrorKind};
-use text_run::Text;
+use text_run::{MakeCause, MakeFault, Text};
 
 /// The name of standard input.
 pub const INPUT: &str = "-";
@@ -109,6 +111,20 @@ pub fn text_of<'a>(rt: &HostRuntime, name: &'a str) -> Text<'a>
         is_file,
         content,
     }
+}
+
+/// The texts with these names.
+pub fn texts_of<'a>(rt: &HostRuntime, names: &[&'a str]) -> Result<Vec<Text<'a>>, MakeFault<'a>>
+    ensures { IfOk result (λ texts. map name_of texts.items ≡ map now_of names.now) }
+{
+    let mut texts = Vec::new(rt.alloc());
+    for name in names {
+        let name = *name;
+        if texts.push(text_of(rt, name)).is_err() {
+            return Err(MakeFault::whole(name, MakeCause::Run(Cause::NoMemory)));
+        }
+    }
+    Ok(texts)
 }
 
 /// The bytes of a list's file, or of standard input if its name is `-`: of a longer one, one byte

@@ -9,6 +9,7 @@ mod disk;
 mod ending;
 mod loading;
 mod make;
+mod names;
 mod screen;
 mod show;
 

@@ -1,13 +1,13 @@
 //! `krl make`: a list that is made of texts and put under its name.
 
-ghost use Rattle.std.specs.Prelude.{◌≡◌, ◌⊎◌, IfOk, map};
-ghost use Rattle.krl.specs.Make.{IsAsked, IsListOver, IsMade, name_of, now_of, over_of};
+ghost use Rattle.std.specs.Prelude.{◌≡◌, ◌⊎◌};
+ghost use Rattle.krl.specs.Make.{IsAsked, IsListOver, IsMade, over_of};
 ghost use Rattle.text_run.specs.Fault.{whole_fault};
 ghost use Rattle.text_run.specs.declared.make_fault.MakeCause.TheVariants.{Run};
 
 use crate::Krl;
 use crate::ending::fail_to_make;
-use crate::loading::{open, text_of};
+use crate::loading::{open, texts_of};
 use any_list::Lists;
 use audit_lines::Refusal;
 use byte_streams::{Lent, ToWrite};
@@ -21,6 +21,7 @@ use run_output::FAILED;
 use show_run::{Comparison, diff_run};
 use ssh_wire::Bytes;
 use std::alloc::Global;
+use text_entries::NamesByKey;
 use text_run::{Facts, Inputs, MakeCause, MakeFault, Over, Text, list_over, made_line, text_run};
 
 /// Makes the list of the task, or prints what making it would change. Returns the exit status.
@@ -74,6 +75,7 @@ fn foresee<'i>(rt: &HostRuntime, task: &Make, inputs: &'i Inputs<'i>) -> u8
     say_changes(
         rt,
         task.list,
+        &facts.names,
         old.unwrap_or(nothing),
         Bytes::from_vec(bytes),
     )
@@ -97,7 +99,7 @@ fn old_of(rt: &HostRuntime, task: &Make) -> Result<Option<Bytes>, Cause> {
 }
 
 // Prints what the new list names and the old one does not, and the other way round.
-fn say_changes(rt: &HostRuntime, list: &str, old: Bytes, new: Bytes) -> u8
+fn say_changes(rt: &HostRuntime, list: &str, names: &NamesByKey, old: Bytes, new: Bytes) -> u8
     ensures { (result ≡ 255) ⊎ (result ≡ 0) }
 {
     let mut sides = Sides {
@@ -108,6 +110,7 @@ fn say_changes(rt: &HostRuntime, list: &str, old: Bytes, new: Bytes) -> u8
         old: list,
         new: list,
         json: false,
+        names: Some(names),
     };
     let mut out = ToWrite::new(rt.stdout());
     let done = diff_run(rt.alloc(), &mut sides, comparison, &mut out);
@@ -181,20 +184,6 @@ fn over_of(update: bool, replace: bool) -> Over
     } else {
         Over::Version
     }
-}
-
-// The texts with these names.
-fn texts_of<'a>(rt: &HostRuntime, names: &[&'a str]) -> Result<Vec<Text<'a>>, MakeFault<'a>>
-    ensures { IfOk result (λ texts. map name_of texts.items ≡ map now_of names.now) }
-{
-    let mut texts = Vec::new(rt.alloc());
-    for name in names {
-        let name = *name;
-        if texts.push(text_of(rt, name)).is_err() {
-            return Err(fault_of(name, Cause::NoMemory));
-        }
-    }
-    Ok(texts)
 }
 
 // Says which list was made, unless nothing is to be said.

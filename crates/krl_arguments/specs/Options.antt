@@ -36,10 +36,13 @@ check_rules =
     ∷ long_rule (codes "json")
     ∷ long_rule (codes "print-version") ∷ []
 
--- krl show: --json, --no-name, and the lists
+-- krl show: --json, --no-name, --names, and the lists
 abbrev pub show_rules : List Rule
 show_rules =
-    long_rule (codes "json") ∷ long_rule (codes "no-name") ∷ some_words_rule (codes "lists") ∷ []
+    long_rule (codes "json")
+    ∷ long_rule (codes "no-name")
+    ∷ long_values_rule (codes "names")
+    ∷ some_words_rule (codes "lists") ∷ []
 
 -- krl make: -f, -z, --comment, -q, -n, -u, --replace, --allow-empty, and the texts
 abbrev pub make_rules : List Rule
@@ -54,10 +57,13 @@ make_rules =
     ∷ long_rule (codes "allow-empty")
     ∷ words_rule (codes "files") ∷ []
 
--- krl diff: --json, and both lists
+-- krl diff: --json, --names, and both lists
 abbrev pub diff_rules : List Rule
 diff_rules =
-    long_rule (codes "json") ∷ word_rule (codes "old") ∷ word_rule (codes "new") ∷ []
+    long_rule (codes "json")
+    ∷ long_values_rule (codes "names")
+    ∷ word_rule (codes "old")
+    ∷ word_rule (codes "new") ∷ []
 
 -- a subcommand of these arguments
 abbrev pub with_all : List ℕ → List Rule → Shape

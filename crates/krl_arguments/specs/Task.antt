@@ -50,17 +50,19 @@ pub record Check : Type 0 where
   pub json : Bool
   pub print_version : Bool
 
--- lists that are shown, and whether --json and --no-name are given
+-- lists that are shown, whether --json and --no-name are given, and the texts of --names
 pub record Show : Type 0 where
   pub lists : List (List ℕ)
   pub json : Bool
   pub no_name : Bool
+  pub names : List (List ℕ)
 
--- two lists that are compared, and whether --json is given
+-- two lists that are compared, whether --json is given, and the texts of --names
 pub record Diff : Type 0 where
   pub old : List ℕ
   pub new : List ℕ
   pub json : Bool
+  pub names : List (List ℕ)
 
 pub data Task : Type 0 where
   AuditTask : Audit → Task
@@ -161,17 +163,22 @@ show_with rows = record {
   lists = values_in (codes "lists") rows;
   json = is_set (codes "json") rows;
   no_name = is_set (codes "no-name") rows;
+  names = values_in (codes "names") rows;
 }
 
 -- the comparison of these lists
-abbrev pub diff_with : (old new : Option (List ℕ)) → (json : Bool) → Result Diff Misuse
-diff_with (Some old) (Some new) json = Ok (record { old = old; new = new; json = json })
-diff_with None new json = Err misuses.Incomplete
-diff_with (Some old) None json = Err misuses.Incomplete
+abbrev pub diff_with : List Row → (old new : Option (List ℕ)) → Result Diff Misuse
+diff_with rows (Some old) (Some new) = Ok (record {
+  old = old;
+  new = new;
+  json = is_set (codes "json") rows;
+  names = values_in (codes "names") rows;
+})
+diff_with rows None new = Err misuses.Incomplete
+diff_with rows (Some old) None = Err misuses.Incomplete
 
 abbrev pub diff_of : List Row → Result Diff Misuse
-diff_of rows = diff_with (first_of (codes "old") rows) (first_of (codes "new") rows)
-    (is_set (codes "json") rows)
+diff_of rows = diff_with rows (first_of (codes "old") rows) (first_of (codes "new") rows)
 
 -- the task of the subcommand of this name
 abbrev pub named_task : List ℕ → List Row → Result Task Misuse
@@ -227,10 +234,16 @@ show_by show = record {
   lists = map (λ name. name.now) show.lists.items;
   json = show.json;
   no_name = show.no_name;
+  names = map (λ name. name.now) show.names.items;
 }
 
 abbrev pub diff_by : DiffOf → Diff
-diff_by diff = record { old = diff.old.now; new = diff.new.now; json = diff.json }
+diff_by diff = record {
+  old = diff.old.now;
+  new = diff.new.now;
+  json = diff.json;
+  names = map (λ name. name.now) diff.names.items;
+}
 
 abbrev pub task_by : TaskOf → Task
 task_by (tasks.Audit audit) = AuditTask (audit_by audit)

@@ -12,10 +12,11 @@ use option_table::values_of;
 use std::alloc::{AllocError, Global};
 
 // The options and words of every subcommand that name files to read.
-const READ_OPTIONS: [&str; 9] = [
+const READ_OPTIONS: [&str; 10] = [
     "list",
     "newer-than",
     "superset-of",
+    "names",
     "keep",
     "canary",
     "files0-from",

@@ -126,7 +126,7 @@ const CHECK: [Argument; 10] = [
     },
 ];
 
-const SHOW: [Argument; 3] = [
+const SHOW: [Argument; 4] = [
     Argument {
         id: "json",
         syntax: Syntax::Long,
@@ -136,6 +136,11 @@ const SHOW: [Argument; 3] = [
         id: "no-name",
         syntax: Syntax::Long,
         help: "Leave out the name of each list",
+    },
+    Argument {
+        id: "names",
+        syntax: Syntax::LongValues("file"),
+        help: "Name the CAs as this text of a list does; - is standard input",
     },
     Argument {
         id: "lists",
@@ -192,11 +197,16 @@ const MAKE: [Argument; 9] = [
     },
 ];
 
-const DIFF: [Argument; 3] = [
+const DIFF: [Argument; 4] = [
     Argument {
         id: "json",
         syntax: Syntax::Long,
         help: "Print one JSON object on a line for each entry",
+    },
+    Argument {
+        id: "names",
+        syntax: Syntax::LongValues("file"),
+        help: "Name the CAs as this text of a list does; - is standard input",
     },
     Argument {
         id: "old",

@@ -74,6 +74,8 @@ pub struct Show<'a> {
     pub json: bool,
     /// True if their names are not printed, by `--no-name`.
     pub no_name: bool,
+    /// The texts that name certificate authorities, by `--names`.
+    pub names: Vec<&'a str>,
 }
 
 /// `krl make`: the list, its version and comment, and the texts that it is made of.
@@ -100,7 +102,7 @@ pub struct Make<'a> {
 }
 
 /// `krl diff`: two lists, and how their difference is printed.
-#[derive(Clone, Copy)]
+#[derive(Drop)]
 pub struct Diff<'a> {
     /// The old revocation list.
     pub old: &'a str,
@@ -108,4 +110,6 @@ pub struct Diff<'a> {
     pub new: &'a str,
     /// True if JSON is printed, by `--json`.
     pub json: bool,
+    /// The texts that name certificate authorities, by `--names`.
+    pub names: Vec<&'a str>,
 }

@@ -60,7 +60,7 @@ fn named_task<'a>(
         return Ok(make_in(alloc, found)?.map(Task::Make));
     }
     if name == "diff" {
-        return Ok(diff_in(found).map(Task::Diff));
+        return Ok(diff_in(alloc, found)?.map(Task::Diff));
     }
     Ok(Err(Misuse::Incomplete))
 }
@@ -226,23 +226,31 @@ fn show_with<'a>(alloc: Global, found: &ArgMatches<'a>) -> Result<Show<'a>, Allo
     ensures { IfOk result (λ show. show_by show ≡ show_with (rows_of (found_of found.now))) }
 {
     let lists = values_of(alloc, found, "lists")?;
+    let names = values_of(alloc, found, "names")?;
     Ok(Show {
         lists,
         json: is_set(found, "json"),
         no_name: is_set(found, "no-name"),
+        names,
     })
 }
 
 // The lists that are compared.
-fn diff_in<'a>(found: &ArgMatches<'a>) -> Result<Diff<'a>, Misuse>
-    ensures { result_map diff_by result ≡ diff_of (rows_of (found_of found.now)) }
+fn diff_in<'a>(
+    alloc: Global,
+    found: &ArgMatches<'a>,
+) -> Result<Result<Diff<'a>, Misuse>, AllocError>
+    ensures { IfOk result (λ diff.
+        result_map diff_by diff ≡ diff_of (rows_of (found_of found.now))) }
 {
+    let names = values_of(alloc, found, "names")?;
     match (value_of(found, "old"), value_of(found, "new")) {
-        (Some(old), Some(new)) => Ok(Diff {
+        (Some(old), Some(new)) => Ok(Ok(Diff {
             old,
             new,
             json: is_set(found, "json"),
-        }),
-        _ => Err(Misuse::Incomplete),
+            names,
+        })),
+        _ => Ok(Err(Misuse::Incomplete)),
     }
 }

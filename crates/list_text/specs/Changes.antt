@@ -5,6 +5,7 @@ use Rattle.list_text.specs.declared.side.Side.TheVariants.{Added, Removed}
 use Rattle.krl_entries.specs.Facts.{AuthorityFact}
 use Rattle.list_text.specs.Facts.{Fact, HeldFact}
 use Rattle.list_text.specs.Text.{fact_line}
+use Rattle.text_entries.specs.AuthorityNames.{NameOfKey}
 
 -- the name of a side in JSON objects
 abbrev pub side_word : Side → List ℕ
@@ -22,5 +23,5 @@ mark_of side (HeldFact (AuthorityFact authority)) = codes "  "
 mark_of side fact = side_mark side
 
 -- the line of a change
-abbrev pub change_line : Side → Fact → List ℕ
-change_line side fact = mark_of side fact ++ fact_line fact
+abbrev pub change_line : NameOfKey → Side → Fact → List ℕ
+change_line names side fact = mark_of side fact ++ fact_line names fact

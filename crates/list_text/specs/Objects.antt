@@ -17,6 +17,7 @@ use Rattle.list_text.specs.Facts.{Fact, ListFact, HeldFact}
 use Rattle.krl_entries.specs.Facts.{AuthorityFact, SerialsFact, ItemFact}
 use Rattle.krl_types.specs.declared.item_kind.ItemKind.TheVariants as kinds
 use Rattle.list_text.specs.Text.{hash_text}
+use Rattle.text_entries.specs.AuthorityNames.{NameOfKey}
 
 -- all authorities, or one by the fingerprint of its bytes
 abbrev pub authority_text : List ℕ → List ℕ
@@ -25,6 +26,14 @@ authority_text authority =
 
 abbrev pub authority_field : List ℕ → Field
 authority_field authority = text_field (codes "ca") (authority_text authority)
+
+-- the name of an authority, if it has one
+abbrev pub name_fields : (name : Option (List ℕ)) → List Field
+name_fields None = []
+name_fields (Some name) = text_field (codes "name") name ∷ []
+
+abbrev pub authority_fields : NameOfKey → (authority : List ℕ) → List Field
+authority_fields names authority = authority_field authority ∷ name_fields (names authority)
 
 -- the first and the last serial number, as strings, because they may be too large for a reader's
 -- numbers
@@ -43,19 +52,19 @@ header_fields (Some header) =
     ∷ text_field (codes "generated") (instant_text header.date)
     ∷ text_field (codes "comment") header.comment ∷ []
 
--- the fields of the object of a fact
-abbrev pub fact_fields : Fact → List Field
-fact_fields (ListFact name header) = word_field (codes "list") name ∷ header_fields header
-fact_fields (HeldFact (AuthorityFact authority)) = authority_field authority ∷ []
-fact_fields (HeldFact (SerialsFact authority span)) =
-    authority_field authority ∷ serials_field span ∷ []
-fact_fields (HeldFact (ItemFact kinds.Id authority id)) =
-    authority_field authority ∷ text_field (codes "id") id ∷ []
-fact_fields (HeldFact (ItemFact kinds.Key authority blob)) =
+-- the fields of the object of a fact, by the names of authorities
+abbrev pub fact_fields : NameOfKey → Fact → List Field
+fact_fields names (ListFact name header) = word_field (codes "list") name ∷ header_fields header
+fact_fields names (HeldFact (AuthorityFact authority)) = authority_fields names authority
+fact_fields names (HeldFact (SerialsFact authority span)) =
+    authority_fields names authority ++ serials_field span ∷ []
+fact_fields names (HeldFact (ItemFact kinds.Id authority id)) =
+    authority_fields names authority ++ text_field (codes "id") id ∷ []
+fact_fields names (HeldFact (ItemFact kinds.Key authority blob)) =
     text_field (codes "key") (fingerprint_text Sha256 blob) ∷ []
-fact_fields (HeldFact (ItemFact kinds.Sha1 authority hash)) =
+fact_fields names (HeldFact (ItemFact kinds.Sha1 authority hash)) =
     hash_field (codes "SHA1:") hash ∷ []
-fact_fields (HeldFact (ItemFact kinds.Sha256 authority hash)) =
+fact_fields names (HeldFact (ItemFact kinds.Sha256 authority hash)) =
     hash_field (codes "SHA256:") hash ∷ []
 
 -- the side of a fact about a change
@@ -64,15 +73,16 @@ side_fields None = []
 side_fields (Some side) = word_field (codes "change") (side_word side) ∷ []
 
 -- The line of a fact. An authority has no line of its own: it is in those of its facts.
-unfoldable pub object_line : Option Side → Fact → List ℕ
-object_line side (HeldFact (AuthorityFact authority)) = []
-object_line side fact = json_line (object_of (side_fields side ++ fact_fields fact))
+unfoldable pub object_line : NameOfKey → Option Side → Fact → List ℕ
+object_line names side (HeldFact (AuthorityFact authority)) = []
+object_line names side fact = json_line (object_of (side_fields side ++ fact_fields names fact))
 
 -- The line of a fact, without the name of a list. A plain list has nothing else to say.
-abbrev pub unnamed_object : Fact → List ℕ
-unnamed_object (ListFact name None) = []
-unnamed_object (ListFact name (Some header)) = json_line (object_of (header_fields (Some header)))
-unnamed_object (HeldFact fact) = object_line None (HeldFact fact)
+abbrev pub unnamed_object : NameOfKey → Fact → List ℕ
+unnamed_object names (ListFact name None) = []
+unnamed_object names (ListFact name (Some header)) =
+    json_line (object_of (header_fields (Some header)))
+unnamed_object names (HeldFact fact) = object_line names None (HeldFact fact)
 
 -- how many facts of each kind
 abbrev pub kind_fields : Counts → List Field

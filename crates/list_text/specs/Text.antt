@@ -1,7 +1,7 @@
 -- The text of a list: a line for each fact (krl(1), THE TEXT OF A LIST).
 use Rattle.std.specs.Prelude.{ℕ, ◌==◌, ◌&&◌, ◌||◌, nat_eq, nat_le, not, Bool, false, List, []}
-use Rattle.std.specs.Prelude.{◌++◌, codes, decimal, length, map, Option, Some, None, Result}
-use Rattle.std.specs.Prelude.{Ok, Err, if◌then◌else◌}
+use Rattle.std.specs.Prelude.{◌++◌, codes, decimal, is_some, length, map, Option, Some, None}
+use Rattle.std.specs.Prelude.{Result, Ok, Err, if◌then◌else◌}
 use Rattle.std.specs.List.{concat, ends_with, list_all, starts_with}
 use Rattle.base64.specs.Engines.{standard}
 use Rattle.base64.specs.GeneralPurpose.{encode_of}
@@ -18,7 +18,8 @@ use Rattle.cert_listing.specs.Time.{instant_text}
 use Rattle.line_pieces.specs.Visible.{visible}
 use Rattle.krl_entries.specs.Revocations.{Revocations}
 use Rattle.krl_format.specs.declared.header.Header.{Header}
-use Rattle.text_entries.specs.Values.{is_quoted, looks_like_key, looks_like_several}
+use Rattle.text_entries.specs.AuthorityNames.{NameOfKey}
+use Rattle.text_entries.specs.KeyId.{no_id}
 use Rattle.list_text.specs.Facts.{Fact, ListFact, HeldFact, facts_of}
 use Rattle.krl_entries.specs.Facts.{AuthorityFact, SerialsFact, ItemFact}
 use Rattle.krl_types.specs.declared.item_kind.ItemKind.TheVariants as kinds
@@ -34,11 +35,18 @@ named_line label blob (Ok key) =
 named_line label blob (Err fault) =
     label ++ (codes "-blob: " ++ (encode_of standard blob ++ codes "\n"))
 
--- all authorities, or one
-abbrev pub authority_line : List ℕ → List ℕ
-authority_line authority =
+-- all authorities, or one; one that has a name is given it
+abbrev pub authority_line : (name : Option (List ℕ)) → (authority : List ℕ) → List ℕ
+authority_line None authority =
     if length authority == 0 then codes "ca: all\n"
     else named_line (codes "ca") authority (key_at authority)
+authority_line (Some name) authority =
+    codes "@" ++ named_line name authority (key_at authority)
+
+-- the name of the authority of an entry, before its word
+abbrev pub name_part : (name : Option (List ℕ)) → List ℕ
+name_part None = []
+name_part (Some name) = codes "@" ++ (name ++ codes " ")
 
 abbrev pub key_line : List ℕ → List ℕ
 key_line blob = named_line (codes "key") blob (key_at blob)
@@ -61,10 +69,9 @@ abbrev pub has_blank_end : List ℕ → Bool
 has_blank_end id =
     starts_with nat_eq id (codes " ") || ends_with nat_eq id (codes " ")
 
--- A reader of texts would take the key ID for something else: a key, or an ID between quotes, or
--- several.
+-- A reader of texts would not take it for a key ID.
 abbrev pub looks_otherwise : List ℕ → Bool
-looks_otherwise id = looks_like_key id || (is_quoted id || looks_like_several id)
+looks_otherwise id = is_some (no_id id)
 
 -- A line can have the key ID as it is: it is not empty, neither end is a blank, it looks like
 -- nothing else, and each byte is one of a text.
@@ -110,21 +117,29 @@ header_line None = []
 
 -- ---- all facts
 
--- the line of a fact
-unfoldable pub fact_line : Fact → List ℕ
-fact_line (ListFact name header) = list_line name header
-fact_line (HeldFact (AuthorityFact authority)) = authority_line authority
-fact_line (HeldFact (SerialsFact authority span)) = serials_line span
-fact_line (HeldFact (ItemFact kinds.Id authority id)) = id_line id
-fact_line (HeldFact (ItemFact kinds.Key authority blob)) = key_line blob
-fact_line (HeldFact (ItemFact kinds.Sha1 authority hash)) = hash_line (codes "SHA1:") hash
-fact_line (HeldFact (ItemFact kinds.Sha256 authority hash)) = hash_line (codes "SHA256:") hash
+-- no authority has a name
+abbrev pub no_names : NameOfKey
+no_names key = None
+
+-- the line of a fact, by the names of authorities
+unfoldable pub fact_line : NameOfKey → Fact → List ℕ
+fact_line names (ListFact name header) = list_line name header
+fact_line names (HeldFact (AuthorityFact authority)) = authority_line (names authority) authority
+fact_line names (HeldFact (SerialsFact authority span)) =
+    name_part (names authority) ++ serials_line span
+fact_line names (HeldFact (ItemFact kinds.Id authority id)) =
+    name_part (names authority) ++ id_line id
+fact_line names (HeldFact (ItemFact kinds.Key authority blob)) = key_line blob
+fact_line names (HeldFact (ItemFact kinds.Sha1 authority hash)) =
+    hash_line (codes "SHA1:") hash
+fact_line names (HeldFact (ItemFact kinds.Sha256 authority hash)) =
+    hash_line (codes "SHA256:") hash
 
 -- the same without the name of a list
-abbrev pub unnamed_line : Fact → List ℕ
-unnamed_line (ListFact name header) = header_line header
-unnamed_line (HeldFact fact) = fact_line (HeldFact fact)
+abbrev pub unnamed_line : NameOfKey → Fact → List ℕ
+unnamed_line names (ListFact name header) = header_line header
+unnamed_line names (HeldFact fact) = fact_line names (HeldFact fact)
 
 -- the text of what is held
-abbrev pub text_of : Revocations → List ℕ
-text_of held = concat (map fact_line (facts_of held))
+abbrev pub text_of : NameOfKey → Revocations → List ℕ
+text_of names held = concat (map (fact_line names) (facts_of held))

@@ -10,25 +10,26 @@ use crate::line::{push_change, push_line, push_unnamed};
 use crate::object::{write_done, write_object, write_unnamed};
 use crate::side::Side;
 use std::alloc::{AllocError, Global};
+use text_entries::NamesByKey;
 
-/// The form in which lists are shown.
+/// The form in which lists are shown, and the names of authorities, if some are given.
 #[derive(Clone, Copy)]
-pub enum Form {
+pub enum Form<'n> {
     /// As text that can be read back.
-    Text,
+    Text(Option<&'n NamesByKey>),
     /// As JSON objects.
-    Json,
+    Json(Option<&'n NamesByKey>),
     /// As text without the names of the lists.
-    Unnamed,
+    Unnamed(Option<&'n NamesByKey>),
     /// As JSON objects without the names of the lists.
-    JsonUnnamed,
+    JsonUnnamed(Option<&'n NamesByKey>),
     /// As text, each line with the mark of a side of a comparison.
-    Change(Side),
+    Change(Side, Option<&'n NamesByKey>),
     /// As JSON objects that say to which side of a comparison they belong.
-    JsonChange(Side),
+    JsonChange(Side, Option<&'n NamesByKey>),
 }
 
-impl Form {
+impl<'n> Form<'n> {
     /// Makes the line of a fact, with its line feed. It is empty for an authority as JSON, and for
     /// a plain list without its name.
     #[inline(always)]
@@ -38,26 +39,26 @@ impl Form {
         fact: Fact<'_>,
         line: &mut Vec<u8>,
     ) -> Result<(), AllocError>
-        ensures { OnOk result (line.new.items ≡ form_line self (fact_of fact.entry)) }
+        ensures { OnOk result (line.new.items ≡ form_line self.entry (fact_of fact.entry)) }
     {
         line.clear();
         match self {
-            Form::Text => push_line(alloc, fact, line),
-            Form::Json => write_object(None, fact, line),
-            Form::Unnamed => push_unnamed(alloc, fact, line),
-            Form::JsonUnnamed => write_unnamed(fact, line),
-            Form::Change(side) => push_change(alloc, side, fact, line),
-            Form::JsonChange(side) => write_object(Some(side), fact, line),
+            Form::Text(names) => push_line(alloc, names, fact, line),
+            Form::Json(names) => write_object(names, None, fact, line),
+            Form::Unnamed(names) => push_unnamed(alloc, names, fact, line),
+            Form::JsonUnnamed(names) => write_unnamed(names, fact, line),
+            Form::Change(side, names) => push_change(alloc, side, names, fact, line),
+            Form::JsonChange(side, names) => write_object(names, Some(side), fact, line),
         }
     }
 
     /// Makes the line after all facts. It is empty but for lists as JSON.
     pub fn write_last(self, counts: Counts, line: &mut Vec<u8>) -> Result<(), AllocError>
-        ensures { OnOk result (line.new.items ≡ last_line self counts) }
+        ensures { OnOk result (line.new.items ≡ last_line self.entry counts) }
     {
         match self {
-            Form::Json | Form::JsonUnnamed => write_done(counts, line),
-            Form::Text | Form::Unnamed | Form::Change(_) | Form::JsonChange(_) => {
+            Form::Json(_) | Form::JsonUnnamed(_) => write_done(counts, line),
+            Form::Text(_) | Form::Unnamed(_) | Form::Change(..) | Form::JsonChange(..) => {
                 line.clear();
                 Ok(())
             }

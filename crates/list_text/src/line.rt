@@ -4,11 +4,12 @@ ghost use Rattle.std.specs.Prelude.{◌≡◌, ◌++◌, IfOk, OnOk, option_map}
 ghost use Rattle.std.specs.List.{list_all};
 ghost use Rattle.ssh_key.specs.KeyReading.{key_at};
 ghost use Rattle.list_text.specs.Facts.{fact_of};
+ghost use Rattle.list_text.specs.Forms.{names_in};
 ghost use Rattle.list_text.specs.Text.{authority_line, fact_line, hash_line, hash_text, id_line};
 ghost use Rattle.list_text.specs.Text.{comment_part, has_blank_end, is_text, is_text_byte};
 ghost use Rattle.list_text.specs.Changes.{change_line, mark_of};
-ghost use Rattle.list_text.specs.Text.{header_line, list_line, looks_otherwise, named_line};
-ghost use Rattle.list_text.specs.Text.{serials_line, unnamed_line};
+ghost use Rattle.list_text.specs.Text.{header_line, list_line, looks_otherwise, name_part};
+ghost use Rattle.list_text.specs.Text.{named_line, serials_line, unnamed_line};
 
 use crate::fact::Fact;
 use crate::side::Side;
@@ -22,21 +23,22 @@ use line_pieces::{Printed, Visible, Words, pieces, put};
 use serial_set::Span;
 use ssh_key::read_key;
 use std::alloc::{AllocError, Global};
-use text_entries::{is_quoted, looks_like_key, looks_like_several};
+use text_entries::{NamesByKey, no_id};
 
 /// Appends the line of a change: the mark of its side, or blanks before an authority, and the line
 /// of the fact.
 pub(crate) fn push_change(
     alloc: Global,
     side: Side,
+    names: Option<&NamesByKey>,
     fact: Fact<'_>,
     line: &mut Vec<u8>,
 ) -> Result<(), AllocError>
     ensures { OnOk result (line.new.items
-        ≡ line.old.items ++ change_line side (fact_of fact.entry)) }
+        ≡ line.old.items ++ change_line (names_in names.entry) side (fact_of fact.entry)) }
 {
     line.extend_from_slice(mark_of(side, fact))?;
-    push_line(alloc, fact, line)
+    push_line(alloc, names, fact, line)
 }
 
 // The mark before the line of a change. An authority is not changed itself.
@@ -53,14 +55,28 @@ fn mark_of(side: Side, fact: Fact<'_>) -> &'static [u8]
 /// Appends the line of a fact.
 #[inline(always)]
 #[tactic(auto, unfolding(crate::specs::Text::fact_line))]
-pub(crate) fn push_line(alloc: Global, fact: Fact<'_>, line: &mut Vec<u8>) -> Result<(), AllocError>
-    ensures { OnOk result (line.new.items ≡ line.old.items ++ fact_line (fact_of fact.entry)) }
+pub(crate) fn push_line(
+    alloc: Global,
+    names: Option<&NamesByKey>,
+    fact: Fact<'_>,
+    line: &mut Vec<u8>,
+) -> Result<(), AllocError>
+    ensures { OnOk result (line.new.items
+        ≡ line.old.items ++ fact_line (names_in names.entry) (fact_of fact.entry)) }
 {
     match fact {
         Fact::List(name, header) => push_list(alloc, name, header, line),
-        Fact::Held(HeldFact::Authority(authority)) => push_authority(alloc, authority, line),
-        Fact::Held(HeldFact::Serials(_, span)) => push_serials(span, line),
-        Fact::Held(HeldFact::Item(ItemKind::Id, _, id)) => push_id(alloc, id, line),
+        Fact::Held(HeldFact::Authority(authority)) => {
+            push_authority(alloc, name_in(names, authority), authority, line)
+        }
+        Fact::Held(HeldFact::Serials(authority, span)) => {
+            push_name(name_in(names, authority), line)?;
+            push_serials(span, line)
+        }
+        Fact::Held(HeldFact::Item(ItemKind::Id, authority, id)) => {
+            push_name(name_in(names, authority), line)?;
+            push_id(alloc, id, line)
+        }
         Fact::Held(HeldFact::Item(ItemKind::Key, _, blob)) => {
             push_named(alloc, b"key", blob, line)
         }
@@ -77,14 +93,34 @@ pub(crate) fn push_line(alloc: Global, fact: Fact<'_>, line: &mut Vec<u8>) -> Re
 #[inline(always)]
 pub(crate) fn push_unnamed(
     alloc: Global,
+    names: Option<&NamesByKey>,
     fact: Fact<'_>,
     line: &mut Vec<u8>,
 ) -> Result<(), AllocError>
-    ensures { OnOk result (line.new.items ≡ line.old.items ++ unnamed_line (fact_of fact.entry)) }
+    ensures { OnOk result (line.new.items
+        ≡ line.old.items ++ unnamed_line (names_in names.entry) (fact_of fact.entry)) }
 {
     match fact {
         Fact::List(_, header) => push_header(alloc, header, line),
-        Fact::Held(_) => push_line(alloc, fact, line),
+        Fact::Held(_) => push_line(alloc, names, fact, line),
+    }
+}
+
+/// The name of an authority, if it is given one.
+pub(crate) fn name_in<'n>(names: Option<&'n NamesByKey>, authority: &[u8]) -> Option<&'n [u8]>
+    ensures { option_map (λ name. name.now) result ≡ names_in names.entry authority.now }
+{
+    names?.name(authority)
+}
+
+// Appends the name of the authority of an entry, if it has one.
+fn push_name(name: Option<&[u8]>, line: &mut Vec<u8>) -> Result<(), AllocError>
+    ensures { OnOk result (line.new.items
+        ≡ line.old.items ++ name_part (option_map (λ name. name.now) name.entry)) }
+{
+    match name {
+        None => Ok(()),
+        Some(name) => put!(line; b"@", Words(name), b" "),
     }
 }
 
@@ -136,9 +172,19 @@ fn push_header(alloc: Global, header: Option<&Header>, line: &mut Vec<u8>) -> Re
 }
 
 // Appends the line of an authority.
-fn push_authority(alloc: Global, authority: &[u8], line: &mut Vec<u8>) -> Result<(), AllocError>
-    ensures { OnOk result (line.new.items ≡ line.old.items ++ authority_line authority.now) }
+fn push_authority(
+    alloc: Global,
+    name: Option<&[u8]>,
+    authority: &[u8],
+    line: &mut Vec<u8>,
+) -> Result<(), AllocError>
+    ensures { OnOk result (line.new.items ≡ line.old.items
+        ++ authority_line (option_map (λ name. name.now) name.entry) authority.now) }
 {
+    if let Some(name) = name {
+        line.extend_from_slice(b"@")?;
+        return push_named(alloc, name, authority, line);
+    }
     if authority.is_empty() {
         return put!(line; b"ca: all\n");
     }
@@ -193,11 +239,11 @@ fn is_text(id: &[u8]) -> bool
     !id.is_empty() && !has_blank_end(id) && !looks_otherwise(id) && are_text_bytes(id)
 }
 
-// Whether a reader of texts would take a key ID for a key, for one between quotes, or for several.
+// Whether a reader of texts would not take it for a key ID.
 fn looks_otherwise(id: &[u8]) -> bool
     ensures { result ≡ looks_otherwise id.now }
 {
-    looks_like_key(id) || is_quoted(id) || looks_like_several(id)
+    no_id(id).is_some()
 }
 
 // Whether a line can have each byte as it is, and none is a `#`.

@@ -3,13 +3,16 @@
 ghost use Rattle.std.specs.Prelude.{◌≡◌, ◌∷◌, [], OnOk, option_map};
 ghost use Rattle.list_text.specs.Facts.{fact_of};
 ghost use Rattle.list_text.specs.Objects.{authority_field, authority_text, changes_line, done_line};
-ghost use Rattle.list_text.specs.Objects.{fact_fields, header_fields, kind_fields, object_line};
+ghost use Rattle.list_text.specs.Forms.{names_in};
+ghost use Rattle.list_text.specs.Objects.{fact_fields, header_fields, kind_fields, name_fields};
+ghost use Rattle.list_text.specs.Objects.{object_line};
 ghost use Rattle.list_text.specs.Objects.{side_fields, unnamed_object};
 ghost use Rattle.list_text.specs.Text.{hash_text};
 ghost use Rattle.json_lines.specs.Field.{text_field};
 
 use crate::counts::Counts;
 use crate::fact::Fact;
+use crate::line::name_in;
 use crate::side::Side;
 use base64::engine::general_purpose::STANDARD_NO_PAD;
 use cert_listing::time_text;
@@ -22,27 +25,35 @@ use krl_format::Header;
 use krl_types::ItemKind;
 use line_pieces::{Words, put};
 use std::alloc::{AllocError, Global};
+use text_entries::NamesByKey;
 
 /// Makes the line of a fact. It is empty for an authority.
 #[tactic(auto, unfolding(crate::specs::Objects::object_line))]
 pub(crate) fn write_object(
+    names: Option<&NamesByKey>,
     side: Option<Side>,
     fact: Fact<'_>,
     line: &mut Vec<u8>,
 ) -> Result<(), AllocError>
-    ensures { OnOk result (line.new.items ≡ object_line side (fact_of fact.entry)) }
+    ensures { OnOk result (line.new.items
+        ≡ object_line (names_in names.entry) side (fact_of fact.entry)) }
 {
     if let Fact::Held(HeldFact::Authority(_)) = fact {
         line.clear();
         return Ok(());
     }
-    object!(line; SideOf(side), fact)
+    object!(line; SideOf(side), Named(names, fact))
 }
 
 /// Makes the line of a fact, without the name of a list. It is empty for an authority and for a
 /// plain list.
-pub(crate) fn write_unnamed(fact: Fact<'_>, line: &mut Vec<u8>) -> Result<(), AllocError>
-    ensures { OnOk result (line.new.items ≡ unnamed_object (fact_of fact.entry)) }
+pub(crate) fn write_unnamed(
+    names: Option<&NamesByKey>,
+    fact: Fact<'_>,
+    line: &mut Vec<u8>,
+) -> Result<(), AllocError>
+    ensures { OnOk result (line.new.items
+        ≡ unnamed_object (names_in names.entry) (fact_of fact.entry)) }
 {
     match fact {
         Fact::List(_, None) => {
@@ -50,7 +61,7 @@ pub(crate) fn write_unnamed(fact: Fact<'_>, line: &mut Vec<u8>) -> Result<(), Al
             Ok(())
         }
         Fact::List(_, header) => object!(line; HeaderOf(header)),
-        Fact::Held(_) => write_object(None, fact, line),
+        Fact::Held(_) => write_object(names, None, fact, line),
     }
 }
 
@@ -70,25 +81,33 @@ impl Fields for SideOf {
     }
 }
 
-impl<'a> Fields for Fact<'a> {
-    ghost fields = { λ fact. fact_fields (fact_of fact) };
+// A fact, by the names of authorities.
+#[derive(Drop)]
+struct Named<'a>(Option<&'a NamesByKey>, Fact<'a>);
+
+impl<'a> Fields for Named<'a> {
+    ghost fields = { λ named. fact_fields (names_in named.0) (fact_of named.1) };
 
     #[tactic(auto, unfolding(json_lines::specs::Field::fields_tokens))]
     fn put_fields(&self, alloc: Global, out: &mut LineWriter) -> Result<(), AllocError> {
-        match *self {
+        let Named(names, fact) = self;
+        match *fact {
             Fact::List(name, header) => { put_fields!(alloc, out; "list": name, HeaderOf(header)) }
             Fact::Held(HeldFact::Authority(authority)) => {
-                put_fields!(alloc, out; "ca": Authority(authority))
+                put_fields!(alloc, out; "ca": Authority(authority),
+                    NameOf(name_in(*names, authority)))
             }
             Fact::Held(HeldFact::Serials(authority, span)) => {
                 let serials = Array(fields!(
                     Digits(u128::from(span.lo)),
                     Digits(u128::from(span.hi))
                 ));
-                put_fields!(alloc, out; "ca": Authority(authority), "serial": serials)
+                put_fields!(alloc, out; "ca": Authority(authority),
+                    NameOf(name_in(*names, authority)), "serial": serials)
             }
             Fact::Held(HeldFact::Item(ItemKind::Id, authority, id)) => {
-                put_fields!(alloc, out; "ca": Authority(authority), "id": Text(id))
+                put_fields!(alloc, out; "ca": Authority(authority),
+                    NameOf(name_in(*names, authority)), "id": Text(id))
             }
             Fact::Held(HeldFact::Item(ItemKind::Key, _, blob)) => {
                 let print = fingerprint(alloc, Hash::Sha256, blob)?;
@@ -135,6 +154,22 @@ impl<'a> Value for Authority<'a> {
         }
         let print = fingerprint(alloc, Hash::Sha256, self.0)?;
         Text(&print).put_as(alloc, name, out)
+    }
+}
+
+// The name of an authority, if it has one.
+#[derive(Drop)]
+struct NameOf<'a>(Option<&'a [u8]>);
+
+impl<'a> Fields for NameOf<'a> {
+    ghost fields = { λ name. name_fields (option_map (λ name. name.now) name.0) };
+
+    #[tactic(auto, unfolding(json_lines::specs::Field::fields_tokens))]
+    fn put_fields(&self, alloc: Global, out: &mut LineWriter) -> Result<(), AllocError> {
+        match self.0 {
+            Some(name) => put_fields!(alloc, out; "name": Text(name)),
+            None => Ok(()),
+        }
     }
 }
 

@@ -16,9 +16,9 @@ same_by_status same (Some stop) is = absurd (omega (arith, is))
 same_by_status true None is = refl
 same_by_status false None is = absurd (omega (arith, is))
 
-pub revoked_alike : (json : Bool) (old new : ListOf) (olds news : List Entry) (before after : Option (List ℕ)) (failed : Bool) (status : ℕ) (fault : Option RunFault)
-    → EndsCompared json old new olds news before after failed status fault → status ≡ 0 → (subject : Subject) → Revoked olds subject ↔ Revoked news subject
-revoked_alike json old new olds news before after failed status fault ends zero =
+pub revoked_alike : (comparison : Comparison) (old new : ListOf) (olds news : List Entry) (before after : Option (List ℕ)) (failed : Bool) (status : ℕ) (fault : Option RunFault)
+    → EndsCompared comparison old new olds news before after failed status fault → status ≡ 0 → (subject : Subject) → Revoked olds subject ↔ Revoked news subject
+revoked_alike comparison old new olds news before after failed status fault ends zero =
     revoked_by_same olds news (ends.same_is.0 (same_by_status ends.same fault (sym ends.status_is ∙ zero)))
 
 pub revoked_same : (told : List Reading) (comparison : Comparison) (before after : Option (List ℕ)) (failed : Bool) (status : ℕ) (fault : Option RunFault)
@@ -27,7 +27,7 @@ revoked_same told comparison before after failed status fault (compared old new 
   before = old;
   after = new;
   read = read;
-  same = revoked_alike comparison.json old new read.is_before.entries read.is_after.entries before after failed status fault ends zero;
+  same = revoked_alike comparison old new read.is_before.entries read.is_after.entries before after failed status fault ends zero;
 }
 revoked_same told comparison before after failed status fault (refused stop is fault_is status_is after_is works) zero =
     let ends : 255 ≡ 0 = sym status_is ∙ zero in

@@ -18,23 +18,24 @@ status_of true None = 0
 status_of false None = 1
 
 -- The lines of the changes were printed, or the run was stopped within them.
-pub record EndsPrinted (json : Bool) (changes : Changes) (before after : Option (List ℕ))
-    (failed : Bool) (status : ℕ) (fault : Option RunFault) : Type 0 where
+pub record EndsPrinted (comparison : Comparison) (changes : Changes)
+    (before after : Option (List ℕ)) (failed : Bool) (status : ℕ) (fault : Option RunFault)
+    : Type 0 where
   pub same : Bool
   pub same_is : same ≡ true ↔ IsUnchanged changes
-  pub ends : EndsWith (change_items json changes) before after failed fault
+  pub ends : EndsWith (change_items comparison changes) before after failed fault
   pub status_is : status ≡ status_of same fault
 
 -- Two lists that name these entries were compared: the lines of their changes were printed, or the
 -- run was stopped within them. The status is 0 exactly where the entries name the same.
-pub record EndsCompared (json : Bool) (old new : ListOf) (olds news : List Entry)
+pub record EndsCompared (comparison : Comparison) (old new : ListOf) (olds news : List Entry)
     (before after : Option (List ℕ)) (failed : Bool) (status : ℕ) (fault : Option RunFault)
     : Type 0 where
   pub changes : Changes
   pub are : AreChanges old.revocations new.revocations changes
   pub same : Bool
   pub same_is : same ≡ true ↔ NamesSame olds news
-  pub ends : EndsWith (change_items json changes) before after failed fault
+  pub ends : EndsWith (change_items comparison changes) before after failed fault
   pub status_is : status ≡ status_of same fault
 
 -- Both files were read once each, the old one first, and the lists that their bytes are were
@@ -44,8 +45,8 @@ pub data EndsDiffRun (told : List Reading) (comparison : Comparison)
     : Type 0 where
   compared : (old new : ListOf)
       → (read : AreRead told comparison.old.now comparison.new.now old new)
-      → EndsCompared comparison.json old new read.is_before.entries read.is_after.entries before
-      after failed status fault
+      → EndsCompared comparison old new read.is_before.entries read.is_after.entries before after
+      failed status fault
       → EndsDiffRun told comparison before after failed status fault
   refused : (stop : RunFault) → IsUncompared told comparison.old.now comparison.new.now stop
       → fault ≡ Some stop → status ≡ 255 → after ≡ before → failed ≡ false

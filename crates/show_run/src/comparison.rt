@@ -12,16 +12,19 @@ use list_diff::laws::same_without_difference;
 use run_faults::RunFault;
 use run_output::{Done, FAILED, Printer, Run};
 use std::alloc::Global;
+use text_entries::NamesByKey;
 
 /// Two lists that are compared, by the names of their files, and how their difference is printed.
 #[derive(Clone, Copy)]
-pub struct Comparison<'a> {
+pub struct Comparison<'a, 'n> {
     /// The old list.
     pub old: &'a str,
     /// The new list.
     pub new: &'a str,
     /// True if JSON objects are printed.
     pub json: bool,
+    /// The names of authorities, if some are given.
+    pub names: Option<&'n NamesByKey>,
 }
 
 /// Compares two lists by what they name: prints what only the new one names, and then what only the
@@ -31,7 +34,7 @@ pub struct Comparison<'a> {
 pub fn diff_run<'a, L: Lists, W: Sink>(
     alloc: Global,
     lists: &mut L,
-    comparison: Comparison<'a>,
+    comparison: Comparison<'a, '_>,
     out: &mut W,
 ) -> Done<'a>
     requires { W.has_failed out.old ≡ false }
@@ -40,7 +43,7 @@ pub fn diff_run<'a, L: Lists, W: Sink>(
 {
     same_without_difference();
     match read_changes(alloc, lists, comparison.old, comparison.new) {
-        Ok(changes) => print_changes(alloc, comparison.json, &changes, out),
+        Ok(changes) => print_changes(alloc, comparison, &changes, out),
         Err(fault) => Done {
             status: FAILED,
             fault: Some(fault),
@@ -49,9 +52,14 @@ pub fn diff_run<'a, L: Lists, W: Sink>(
 }
 
 // Prints the changes, and ends the run.
-fn print_changes<'a, W: Sink>(alloc: Global, json: bool, changes: &Changes, out: &mut W) -> Done<'a>
+fn print_changes<'a, W: Sink>(
+    alloc: Global,
+    comparison: Comparison<'_, '_>,
+    changes: &Changes,
+    out: &mut W,
+) -> Done<'a>
     requires { W.has_failed out.old ≡ false }
-    ensures { EndsPrinted json changes.now (W.taken out.old) (W.taken out.new)
+    ensures { EndsPrinted comparison.entry changes.now (W.taken out.old) (W.taken out.new)
         (W.has_failed out.new) result.status result.fault }
 {
     let mut buffer = Vec::new(alloc);
@@ -62,7 +70,7 @@ fn print_changes<'a, W: Sink>(alloc: Global, json: bool, changes: &Changes, out:
         printer,
         line,
     };
-    let stop = print_each(&mut run, json, changes);
+    let stop = print_each(&mut run, comparison, changes);
     let done = run.printer.finish(stop.err());
     let Run {
         printer,

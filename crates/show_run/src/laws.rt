@@ -30,10 +30,10 @@ pub fn bytes_decide_the_changes()
 /// Where the status of a comparison is 0, both lists revoke the same: no key and no certificate is
 /// judged otherwise by the one than by the other.
 pub fn no_change_revokes_the_same()
-    ensures compared { (json : Bool) (old new : ListOf) (olds news : List Entry)
+    ensures compared { (comparison : ComparisonOf) (old new : ListOf) (olds news : List Entry)
         (before after : Option (List ℕ)) (failed : Bool) (status : ℕ)
         (fault : Option RunFaultOf)
-        → EndsCompared json old new olds news before after failed status fault → status ≡ 0
+        → EndsCompared comparison old new olds news before after failed status fault → status ≡ 0
         → (subject : Subject) → (Revoked olds subject ↔ Revoked news subject) }
     ensures run { (told : List Reading) (comparison : ComparisonOf) (before after : Option (List ℕ))
         (failed : Bool) (status : ℕ) (fault : Option RunFaultOf)

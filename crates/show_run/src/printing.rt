@@ -19,10 +19,10 @@ pub(crate) const MEMORY: &str = "memory";
 pub(crate) fn show_fact<'a, W: Sink>(
     run: &mut Run<'_, W>,
     counts: &mut Counts,
-    form: Form,
+    form: Form<'_>,
     fact: Fact<'_>,
 ) -> Result<(), RunFault<'a>>
-    ensures { Shows form (fact_of fact.entry ∷ []) result run.old.printer run.new.printer
+    ensures { Shows form.entry (fact_of fact.entry ∷ []) result run.old.printer run.new.printer
         counts.old counts.new }
 {
     let made = form.write_fact(run.alloc, fact, &mut run.line);
@@ -35,9 +35,9 @@ pub(crate) fn show_fact<'a, W: Sink>(
 pub(crate) fn show_last<'a, W: Sink>(
     run: &mut Run<'_, W>,
     counts: Counts,
-    form: Form,
+    form: Form<'_>,
 ) -> Result<(), RunFault<'a>>
-    ensures { Carries (line_item (last_line form counts) ∷ []) result run.old.printer
+    ensures { Carries (line_item (last_line form.entry counts) ∷ []) result run.old.printer
         run.new.printer }
 {
     let made = form.write_last(counts, &mut run.line);

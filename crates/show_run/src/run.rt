@@ -22,12 +22,13 @@ pub fn show_run<'a, L: Lists, W: Sink>(
     alloc: Global,
     lists: &mut L,
     names: &[&'a str],
-    form: Form,
+    form: Form<'_>,
     out: &mut W,
 ) -> Done<'a>
     requires { W.has_failed out.old ≡ false }
-    ensures { Tells (L.told lists.old) (L.told lists.new) (λ told. EndsShowRun told names.now form
-        (W.taken out.old) (W.taken out.new) (W.has_failed out.new) result.status result.fault) }
+    ensures { Tells (L.told lists.old) (L.told lists.new) (λ told. EndsShowRun told names.now
+        form.entry (W.taken out.old) (W.taken out.new) (W.has_failed out.new) result.status
+        result.fault) }
 {
     match read_lists(alloc, lists, names) {
         Ok(read) => show_all(alloc, read.as_slice(), form, out),
@@ -39,10 +40,10 @@ pub fn show_run<'a, L: Lists, W: Sink>(
 }
 
 // Shows lists that were read.
-fn show_all<'a, W: Sink>(alloc: Global, lists: &[List<'_>], form: Form, out: &mut W) -> Done<'a>
+fn show_all<'a, W: Sink>(alloc: Global, lists: &[List<'_>], form: Form<'_>, out: &mut W) -> Done<'a>
     requires { W.has_failed out.old ≡ false }
-    ensures { EndsShown form lists.now (W.taken out.old) (W.taken out.new) (W.has_failed out.new)
-        result.status result.fault }
+    ensures { EndsShown form.entry lists.now (W.taken out.old) (W.taken out.new)
+        (W.has_failed out.new) result.status result.fault }
 {
     let mut buffer = Vec::new(alloc);
     let printer = Printer::new(&mut buffer, out);
@@ -66,10 +67,10 @@ fn show_all<'a, W: Sink>(alloc: Global, lists: &[List<'_>], form: Form, out: &mu
 // Shows the lists and the last line.
 fn show_each<'a, W: Sink>(
     run: &mut Run<'_, W>,
-    form: Form,
+    form: Form<'_>,
     lists: &[List<'_>],
 ) -> Result<(), RunFault<'a>>
-    ensures { Carries (run_items form lists.now) result run.old.printer run.new.printer }
+    ensures { Carries (run_items form.entry lists.now) result run.old.printer run.new.printer }
 {
     let mut counts = Counts::NONE;
     show_lists(run, &mut counts, form, lists)?;

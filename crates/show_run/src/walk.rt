@@ -16,10 +16,10 @@ use serial_set::Spans;
 pub(crate) fn show_lists<'a, W: Sink>(
     run: &mut Run<'_, W>,
     counts: &mut Counts,
-    form: Form,
+    form: Form<'_>,
     lists: &[List<'_>],
 ) -> Result<(), RunFault<'a>>
-    ensures { Shows form (lists_facts lists.now) result run.old.printer
+    ensures { Shows form.entry (lists_facts lists.now) result run.old.printer
         run.new.printer counts.old counts.new }
 {
     for list in lists {
@@ -32,10 +32,10 @@ pub(crate) fn show_lists<'a, W: Sink>(
 fn show_list<'a, W: Sink>(
     run: &mut Run<'_, W>,
     counts: &mut Counts,
-    form: Form,
+    form: Form<'_>,
     list: &List<'_>,
 ) -> Result<(), RunFault<'a>>
-    ensures { Shows form (list_facts list.now) result run.old.printer
+    ensures { Shows form.entry (list_facts list.now) result run.old.printer
         run.new.printer counts.old counts.new }
 {
     show_fact(run, counts, form, Fact::List(list.name, list.header()))?;
@@ -47,10 +47,10 @@ fn show_list<'a, W: Sink>(
 pub fn show_held<'a, S: Spans, W: Sink>(
     run: &mut Run<'_, W>,
     counts: &mut Counts,
-    form: Form,
+    form: Form<'_>,
     held: &Revocations<S>,
 ) -> Result<(), RunFault<'a>>
-    ensures { Shows form (facts_of held.now) result run.old.printer
+    ensures { Shows form.entry (facts_of held.now) result run.old.printer
         run.new.printer counts.old counts.new }
 {
     for fact in held.facts() {

@@ -4,3 +4,4 @@ pub mod KeyLines
 pub mod NamedKeys
 pub mod OneOff
 pub mod LastDays
+pub mod KeyNames

@@ -1,6 +1,6 @@
 -- The names that texts give to certificate authorities.
 use Rattle.std.specs.Prelude.{◌≡◌, ℕ, Bool, true, ◌==◌, ◌&&◌, ◌||◌, not, nat_lt, List, []}
-use Rattle.std.specs.Prelude.{length, map, Option, Some, None, Result, Ok, Err}
+use Rattle.std.specs.Prelude.{◌∷◌, length, map, Option, Some, None, Result, Ok, Err}
 use Rattle.std.specs.Prelude.{if◌then◌else◌}
 use Rattle.std.specs.BTreeMap.{insert_entry, is_at}
 use Rattle.std.specs.Char.{is_ascii_alphanumeric}
@@ -29,6 +29,22 @@ key_named names name = lookup (is_at (slice_cmp nat_cmp name)) names
 -- Names are in the order of their bytes.
 abbrev pub with_name : NamedKeys → (name key : List ℕ) → NamedKeys
 with_name names name key = insert_entry (slice_cmp nat_cmp) names name key
+
+-- ---- the name of a key
+
+-- the name of each key, if it has one
+abbrev pub NameOfKey : Type 0
+NameOfKey = (key : List ℕ) → Option (List ℕ)
+
+-- the name that was found, or this one if the other key has it
+abbrev pub or_named : (found : Option (List ℕ)) → (key name other : List ℕ) → Option (List ℕ)
+or_named (Some found) key name other = Some found
+or_named None key name other = if bytes_eq other key then Some name else None
+
+-- the first name that this key has
+unfoldable pub name_of : NamedKeys → NameOfKey
+name_of [] key = None
+name_of (entry ∷ names) key = if bytes_eq key entry.1 then Some entry.0 else name_of names key
 
 -- ---- a name that a line gives
 

@@ -19,7 +19,7 @@ two_at text at =
     (slice_index text at - digit_zero) * 10 + (slice_index text (at + 1) - digit_zero)
 
 -- four digits, two and two, with hyphens between them
-abbrev pub is_dated : List ℕ → Bool
+unfoldable pub is_dated : List ℕ → Bool
 is_dated text =
     length text == 10
     && (slice_index text 4 == hyphen && (slice_index text 7 == hyphen
@@ -96,7 +96,7 @@ undated_from content (Some behind) = dated_content behind
 abbrev pub undated : (content : List ℕ) → List ℕ
 undated content = undated_from content (until_in content)
 
--- ---- a day in a comment
+-- ---- a date where it ends nothing
 
 -- what is behind colons, equals signs and blanks
 unfoldable pub after_word_ends : List ℕ → List ℕ
@@ -104,16 +104,12 @@ after_word_ends [] = []
 after_word_ends (byte ∷ bytes) =
     if is_word_end byte then after_word_ends bytes else byte ∷ bytes
 
-abbrev pub is_some_day : Option ℤ → Bool
-is_some_day None = false
-is_some_day (Some day) = true
-
--- The text begins with the word and a day.
+-- The text begins with the word and a date. The calendar may not have it, and it was meant.
 abbrev pub begins_with_day : List ℕ → Bool
 begins_with_day text =
-    is_until (take 5 text) && is_some_day (day_in (take 10 (after_word_ends (drop 5 text))))
+    is_until (take 5 text) && is_dated (take 10 (after_word_ends (drop 5 text)))
 
--- The word and a day are somewhere in the text.
+-- The word and a date are somewhere in the text.
 unfoldable pub says_until : List ℕ → Bool
 says_until [] = false
 says_until (byte ∷ bytes) = begins_with_day (byte ∷ bytes) || says_until bytes

@@ -7,15 +7,17 @@ use Rattle.keyed_lines.specs.declared.key_cause.KeyCause.TheVariants as keys
 use Rattle.krl_spec.specs.Blanks.{bare_line}
 use Rattle.run_faults.specs.declared.spec_cause.SpecCause.TheVariants as specs
 use Rattle.key_text.specs.Blanks.{after_blanks}
-use Rattle.text_entries.specs.Day.{undated}
+use Rattle.text_entries.specs.Day.{says_until, undated}
 use Rattle.text_entries.specs.Mark.{Mark, given_behind, mark_in, value_in}
 use Rattle.text_entries.specs.Misspelt.{is_close, is_word_end, misspelt_in, numbered_line}
+use Rattle.text_entries.specs.Named.{can_end, misspelt_behind, named_in}
 use Rattle.text_entries.specs.Values.{has_blank, is_all, lacks_prefix}
 use Rattle.text_entries.specs.Word.{order_in}
 use Rattle.text_entries.specs.declared.hint.Hint.{Hint}
 use Rattle.text_entries.specs.declared.hint.Hint.TheVariants.{Misspelt, Fingerprint, KeyFile}
 use Rattle.text_entries.specs.declared.hint.Hint.TheVariants.{ByteOrderMark, Hexadecimal, Name}
 use Rattle.text_entries.specs.declared.hint.Hint.TheVariants.{ColonBehindName, LastDay}
+use Rattle.text_entries.specs.declared.hint.Hint.TheVariants.{NoLastDay}
 use Rattle.text_entries.specs.declared.text_cause.TextCause.{TextCause}
 use Rattle.text_entries.specs.declared.text_cause.TextCause.TheVariants as causes
 
@@ -61,7 +63,7 @@ is_entry_value given = is_some (order_in given) || is_all given
 
 abbrev pub given_entry : (given : Option (List ℕ)) → Bool
 given_entry None = false
-given_entry (Some given) = is_entry_value given
+given_entry (Some given) = is_entry_value given && not (is_print given)
 
 -- A colon is between the name of an authority and an entry.
 abbrev pub has_colon : Option Mark → Bool
@@ -80,23 +82,42 @@ given_hint content (Some given) =
 abbrev pub key_hint : (content : List ℕ) → Option Hint
 key_hint content = given_hint content (value_in content)
 
--- ---- a line whose serial number is none
+-- ---- a line whose number is none, or has a leading zero
 
-abbrev pub digits_hint : (given : Option (List ℕ)) → Option Hint
-digits_hint None = None
-digits_hint (Some given) = if lacks_prefix given then Some Hexadecimal else None
+abbrev pub number_meant : (given : Option (List ℕ)) → Option Hint
+number_meant None = None
+number_meant (Some given) =
+    if says_until given then Some LastDay
+    else if lacks_prefix given then Some Hexadecimal
+    else None
 
 abbrev pub number_hint : (content : List ℕ) → Option Hint
-number_hint content = digits_hint (value_in content)
+number_hint content = number_meant (value_in content)
+
+abbrev pub digits_meant : (given : Option (List ℕ)) → Option Hint
+digits_meant None = None
+digits_meant (Some given) = if says_until given then Some LastDay else None
+
+abbrev pub digits_hint : (content : List ℕ) → Option Hint
+digits_hint content = digits_meant (value_in content)
+
+-- ---- a line whose comment has a last day
+
+abbrev pub comment_hint : (content : List ℕ) → Option Hint
+comment_hint content = if can_end (named_in content) then None else Some NoLastDay
 
 -- ---- a line that begins with the name of an authority
+
+abbrev pub behind_meant : (behind : List ℕ) → Option Hint
+behind_meant behind =
+    if means_until behind then Some LastDay else option_map Misspelt (misspelt_behind behind)
 
 -- A last day or a misspelt word may be behind the name, if no right word is.
 abbrev pub marked_hint : Option Mark → Option Hint
 marked_hint None = None
 marked_hint (Some mark) =
     if is_some (order_in (after_blanks mark.rest)) then None
-    else spelling_hint (after_blanks mark.rest)
+    else behind_meant (after_blanks mark.rest)
 
 abbrev pub behind_hint : (content : List ℕ) → Option Hint
 behind_hint content = marked_hint (mark_in content)
@@ -116,6 +137,9 @@ line_hint causes.UnknownWord number (Some line) = word_hint (undated (bare_line 
 line_hint (causes.Spec (specs.Key (keys.Line lines.NoKey))) number (Some line) =
     key_hint (undated (bare_line line))
 line_hint (causes.Spec specs.Number) number (Some line) = number_hint (undated (bare_line line))
+line_hint causes.LeadingZero number (Some line) = digits_hint (undated (bare_line line))
+line_hint causes.Hex number (Some line) = digits_hint (undated (bare_line line))
+line_hint causes.DateInComment number (Some line) = comment_hint (undated (bare_line line))
 line_hint causes.MarkedWord number (Some line) = behind_hint (undated (bare_line line))
 line_hint causes.OtherKey number (Some line) = name_hint (undated (bare_line line))
 line_hint causes.UnknownName number (Some line) = name_hint (undated (bare_line line))

@@ -5,6 +5,7 @@ pub mod AuthorityNames
 pub mod OneOff
 pub mod Misspelt
 pub mod Day
+pub mod KeyId
 pub mod Mark
 pub mod Named
 pub mod Says

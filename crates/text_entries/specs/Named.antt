@@ -1,9 +1,9 @@
--- What lines of the text of a list name, by their form (krl(1), THE TEXT OF A LIST).
+-- The subjects of the lines of the text of a list, by their form (krl(1), THE TEXT OF A LIST).
 use Rattle.std.specs.Prelude.{ℕ, Bool, true, false, ◌&&◌, not, if◌then◌else◌, nat_eq, List, []}
 use Rattle.std.specs.Prelude.{◌∷◌, codes, Option, Some, None}
 use Rattle.std.specs.List.{before_first, ends_with}
 use Rattle.text_entries.specs.Mark.{Mark, given_behind, mark_in}
-use Rattle.text_entries.specs.Misspelt.{is_word_end}
+use Rattle.text_entries.specs.Misspelt.{Misspelt, is_word_end, meant, misspelt}
 use Rattle.text_entries.specs.Values.{begins_with_key}
 use Rattle.text_entries.specs.Word.{Order, order_in}
 use Rattle.text_entries.specs.declared.named.Named.{Named}
@@ -56,3 +56,15 @@ is_entry Certificate = true
 abbrev pub can_end : Named → Bool
 can_end Certificate = true
 can_end named = false
+
+-- ---- a misspelt word behind the name of an authority
+
+abbrev pub if_certified : (name : List ℕ) → Option Word → Option Misspelt
+if_certified name None = None
+if_certified name (Some word) =
+    if can_end (word_named_by word) then Some (misspelt name word) else None
+
+-- Only a word for certificates can be meant there.
+abbrev pub misspelt_behind : (behind : List ℕ) → Option Misspelt
+misspelt_behind behind =
+    if_certified (before_first is_word_end behind) (meant (before_first is_word_end behind))

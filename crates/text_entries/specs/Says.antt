@@ -14,12 +14,12 @@ use Rattle.key_text.specs.Blanks.{after_blanks}
 use Rattle.text_entries.specs.AuthorityNames.{NamedKeys, authority_named, can_have, is_name}
 use Rattle.text_entries.specs.AuthorityNames.{with_name}
 use Rattle.text_entries.specs.Day.{dated_content, has_day_in_comment, is_over, last_day, until_in}
+use Rattle.text_entries.specs.KeyId.{has_control, is_cut, no_id}
 use Rattle.text_entries.specs.Mark.{Mark, given_behind, mark_in}
 use Rattle.text_entries.specs.Named.{can_end, is_entry, named_in}
 use Rattle.text_entries.specs.Values.{authority_blob_in, authority_in, bare_authority_in}
-use Rattle.text_entries.specs.Values.{begins_with_key, blob_in, bytes_in, has_control}
-use Rattle.text_entries.specs.Values.{has_leading_zero, has_zero, is_cut, is_quoted, is_sha1}
-use Rattle.text_entries.specs.Values.{looks_like_key, looks_like_several, no_key, sha1_in}
+use Rattle.text_entries.specs.Values.{begins_with_key, blob_in, bytes_in, has_leading_zero}
+use Rattle.text_entries.specs.Values.{has_zero, is_sha1, no_key, sha1_in}
 use Rattle.text_entries.specs.Word.{Order, order_in}
 use Rattle.text_entries.specs.declared.standing.Standing.{Standing}
 use Rattle.text_entries.specs.declared.text_cause.TextCause.{TextCause}
@@ -94,16 +94,17 @@ serial_entry current given =
     if has_leading_zero given then Err causes.LeadingZero
     else spec_entry (order_entry current directives.Serial given)
 
--- A key ID as it is: a `#` does not cut it short, it has no control characters, it does not begin
--- as a key, and it is neither between quotes nor several.
+abbrev pub unless_cause : Option TextCause → Result Entry TextCause → Result Entry TextCause
+unless_cause None read = read
+unless_cause (Some cause) read = Err cause
+
+-- A key ID as it is: a `#` does not cut it short, it has no control characters, and it looks like
+-- nothing else.
 abbrev pub id_entry : Option (List ℕ) → List ℕ → List ℕ → Result Entry TextCause
 id_entry current line given =
     if is_cut line then Err causes.CutId
     else if has_control given then Err causes.ControlInId
-    else if looks_like_key given then Err causes.KeyAsId
-    else if is_quoted given then Err causes.QuotedId
-    else if looks_like_several given then Err causes.SeveralIds
-    else spec_entry (order_entry current directives.Id given)
+    else unless_cause (no_id given) (spec_entry (order_entry current directives.Id given))
 
 -- a key ID by its bytes, under the current authority
 abbrev pub id_hex_entry : Option (List ℕ) → List ℕ → Result Entry TextCause

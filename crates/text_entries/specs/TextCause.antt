@@ -13,6 +13,7 @@ use Rattle.text_entries.specs.declared.text_cause.TextCause.TheVariants.{Several
 use Rattle.text_entries.specs.declared.text_cause.TextCause.TheVariants.{OtherKey, UnknownName}
 use Rattle.text_entries.specs.declared.text_cause.TextCause.TheVariants.{MarkedWord, BadDate}
 use Rattle.text_entries.specs.declared.text_cause.TextCause.TheVariants.{NoLastDay, DateInComment}
+use Rattle.text_entries.specs.declared.text_cause.TextCause.TheVariants.{DateInId}
 
 abbrev pub text_cause_number : TextCause → ℕ
 text_cause_number (Spec cause) = 1
@@ -35,6 +36,7 @@ text_cause_number MarkedWord = 17
 text_cause_number BadDate = 18
 text_cause_number NoLastDay = 19
 text_cause_number DateInComment = 20
+text_cause_number DateInId = 21
 
 abbrev pub text_cause_text : TextCause → List ℕ
 text_cause_text (Spec cause) = codes "text 1 Spec, " ++ spec_cause_text cause
@@ -57,6 +59,7 @@ text_cause_text MarkedWord = codes "text 17 MarkedWord"
 text_cause_text BadDate = codes "text 18 BadDate"
 text_cause_text NoLastDay = codes "text 19 NoLastDay"
 text_cause_text DateInComment = codes "text 20 DateInComment"
+text_cause_text DateInId = codes "text 21 DateInId"
 
 -- an allocation failed
 abbrev pub no_memory : TextCause
@@ -84,6 +87,7 @@ MayHide MarkedWord = ⊥
 MayHide BadDate = ⊥
 MayHide NoLastDay = ⊥
 MayHide DateInComment = ⊥
+MayHide DateInId = ⊥
 
 -- An allocation may fail before this is found.
 abbrev pub MayLackMemory : {A : Type 0} → Result A TextCause → Type 0

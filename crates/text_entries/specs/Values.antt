@@ -1,16 +1,15 @@
 -- The values of the words of the text of a list, and what cuts one short.
-use Rattle.std.specs.Prelude.{ℕ, Bool, false, ◌+◌, ◌-◌, ◌==◌, ◌&&◌, ◌||◌, not, nat_eq, nat_lt, List}
-use Rattle.std.specs.Prelude.{[], ◌∷◌, length, slice_index, codes, Option, Some, None, Result, Ok, Err}
-use Rattle.std.specs.Prelude.{if◌then◌else◌, drop, take}
+use Rattle.std.specs.Prelude.{ℕ, Bool, false, ◌+◌, ◌==◌, ◌&&◌, ◌||◌, nat_eq, nat_lt, List, []}
+use Rattle.std.specs.Prelude.{◌∷◌, length, codes, Option, Some, None, Result, Ok, Err, drop}
+use Rattle.std.specs.Prelude.{if◌then◌else◌}
 use Rattle.std.specs.Char.{is_ascii_alphabetic, is_ascii_digit, is_ascii_hexdigit}
-use Rattle.std.specs.List.{before_first, ends_with, list_all, list_any, position_or_len}
-use Rattle.std.specs.List.{starts_with}
+use Rattle.std.specs.List.{before_first, list_all, list_any, position_or_len, starts_with}
 use Rattle.base64.specs.Engines.{standard, standard_no_pad}
 use Rattle.base64.specs.GeneralPurpose.{decode_of}
 use Rattle.base64.specs.declared.decode.DecodeError.{DecodeError}
 use Rattle.hex.specs.Hex.{decode_of as hex_decode_of}
 use Rattle.hex.specs.declared.error.FromHexError.{FromHexError}
-use Rattle.ssh_wire.specs.Ascii.{comma, delete, digit_zero, space}
+use Rattle.ssh_wire.specs.Ascii.{digit_zero}
 use Rattle.ssh_wire.specs.Reading.{◌>>=◌, in_fault}
 use Rattle.key_text.specs.Blanks.{after_blanks, before_ending, first_word, is_blank}
 use Rattle.key_text.specs.TypeName.{is_type_name}
@@ -20,7 +19,6 @@ use Rattle.keyed_lines.specs.Keys.{subject_in}
 use Rattle.keyed_lines.specs.declared.key_cause.KeyCause.TheVariants as keys
 use Rattle.run_faults.specs.declared.spec_cause.SpecCause.TheVariants as specs
 use Rattle.krl_types.specs.Subject.{CertNames}
-use Rattle.krl_spec.specs.Blanks.{is_hash}
 use Rattle.krl_spec.specs.Number.{is_hyphen}
 use Rattle.text_entries.specs.declared.text_cause.TextCause.{TextCause}
 use Rattle.text_entries.specs.declared.text_cause.TextCause.TheVariants as causes
@@ -133,43 +131,10 @@ lacks_prefix text =
     || is_bare_hex (after_blanks (drop (position_or_len is_hyphen text + 1) text))
     else is_bare_hex text
 
--- ---- key IDs
-
--- A `#` in the line, and no blank before it: what is before it would be taken for the whole key ID.
-unfoldable pub is_cut : List ℕ → Bool
-is_cut line =
-    nat_lt (position_or_len is_hash line) (length line)
-    && not (nat_lt 0 (position_or_len is_hash line)
-    && is_blank (slice_index line (position_or_len is_hash line - 1)))
-
--- The text begins as a key line does: with the type name of a key and a blank. Each type name has
--- fewer than 64 bytes.
-abbrev pub looks_like_key : List ℕ → Bool
-looks_like_key text = has_blank (take 64 text) && begins_with_key text
-
--- the control characters of ASCII
-abbrev pub is_control : ℕ → Bool
-is_control byte = nat_lt byte space || byte == delete
-
-abbrev pub has_control : List ℕ → Bool
-has_control text = list_any is_control text
+-- ---- key IDs by their bytes
 
 abbrev pub is_zero : ℕ → Bool
 is_zero byte = byte == 0
 
 abbrev pub has_zero : List ℕ → Bool
 has_zero text = list_any is_zero text
-
-abbrev pub is_between : (mark : List ℕ) → List ℕ → Bool
-is_between mark id =
-    nat_lt 1 (length id) && (starts_with nat_eq id mark && ends_with nat_eq id mark)
-
--- It begins and ends with the same quote.
-abbrev pub is_quoted : List ℕ → Bool
-is_quoted id = is_between (codes "\"") id || is_between (codes "'") id
-
--- A comma and a blank look as if two key IDs were meant.
-unfoldable pub looks_like_several : List ℕ → Bool
-looks_like_several [] = false
-looks_like_several (byte ∷ bytes) =
-    byte == comma && starts_with nat_eq bytes (codes " ") || looks_like_several bytes

@@ -20,8 +20,8 @@ const LONGEST: usize = 64;
 /// The names of certificate authorities, each with the bytes of its key.
 #[derive(Drop)]
 pub struct AuthorityNames {
-    alloc: Global,
-    keys: BTreeMap<Vec<u8>, Bytes>,
+    pub(crate) alloc: Global,
+    pub(crate) keys: BTreeMap<Vec<u8>, Bytes>,
 }
 
 impl Model for AuthorityNames {

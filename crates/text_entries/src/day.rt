@@ -20,7 +20,7 @@ const SIZE: usize = 10;
 const WORD: &[u8] = b"until";
 
 /// A day that is written as `YYYY-MM-DD`, by its number from 1970-01-01 on.
-#[tactic(auto, unfolding(crate::specs::Day::day_in))]
+#[tactic(auto, unfolding(crate::specs::Day::day_in, crate::specs::Day::is_dated))]
 pub fn day_in(text: &[u8]) -> Option<i32>
     ensures { result ≡ day_in text.now }
 {
@@ -57,6 +57,7 @@ fn is_date(year: u64, month: u64, day: u64) -> bool
 }
 
 // Whether the text is four digits, two and two, with hyphens between them.
+#[tactic(auto, unfolding(crate::specs::Day::is_dated))]
 fn is_dated(text: &[u8]) -> bool
     ensures { result ≡ is_dated text.now }
 {
@@ -93,7 +94,7 @@ pub(crate) fn is_over(today: u64, day: i32) -> bool
     i128::from(day) < i128::from(today)
 }
 
-/// What is behind the word of a last day and blanks, where content begins with them.
+/// The text behind the word of a last day and blanks, where content begins with them.
 #[tactic(auto, unfolding(crate::specs::Day::until_in))]
 pub(crate) fn until_in(content: &[u8]) -> Option<&[u8]>
     ensures { MatchOption result (until_in content.now ≡ None)
@@ -163,16 +164,16 @@ pub(crate) fn undated(content: &[u8]) -> &[u8]
     }
 }
 
-/// Whether the comment of a line has the word of a last day, and a day.
+/// Whether the comment of a line has the word of a last day, and a date.
 pub(crate) fn has_day_in_comment(line: &[u8]) -> bool
     ensures { result ≡ has_day_in_comment line.now }
 {
     says_until(&line[position_of(line, b'#')..])
 }
 
-// Whether the word of a last day and a day are somewhere in a text.
+/// Whether the word of a last day and a date are somewhere in a text.
 #[tactic(auto, unfolding(crate::specs::Day::says_until))]
-fn says_until(text: &[u8]) -> bool
+pub(crate) fn says_until(text: &[u8]) -> bool
     ensures { result ≡ says_until text.now }
 {
     let mut rest = text;
@@ -185,7 +186,7 @@ fn says_until(text: &[u8]) -> bool
     false
 }
 
-// Whether a text begins with the word of a last day, and a day.
+// Whether a text begins with the word of a last day, and a date.
 fn begins_with_day(text: &[u8]) -> bool
     ensures { result ≡ begins_with_day text.now }
 {
@@ -194,7 +195,7 @@ fn begins_with_day(text: &[u8]) -> bool
         return false;
     }
     let day = after_word_ends(&text[size..]);
-    day_in(&day[..SIZE.min(day.len())]).is_some()
+    is_dated(&day[..SIZE.min(day.len())])
 }
 
 // The text behind colons, equals signs and blanks.

@@ -1,17 +1,20 @@
 //! The form that a line with a fault may be meant in.
 
 ghost use Rattle.std.specs.Prelude.{◌≡◌};
-ghost use Rattle.text_entries.specs.Hint.{behind_hint, has_colon, has_word, hint_at};
-ghost use Rattle.text_entries.specs.Hint.{is_entry_value};
+ghost use Rattle.text_entries.specs.Hint.{behind_hint, comment_hint, digits_hint, has_colon};
+ghost use Rattle.text_entries.specs.Hint.{has_word, hint_at, is_entry_value};
 ghost use Rattle.text_entries.specs.Hint.{is_file_name, is_print, key_hint, means_until, name_hint};
 ghost use Rattle.text_entries.specs.Hint.{number_hint, spelling_hint, word_hint};
 ghost use Rattle.text_entries.specs.Mark.{mark_in};
 ghost use Rattle.text_entries.specs.Misspelt.{numbered_line};
 
 use crate::authority::is_all;
-use crate::day::undated;
+use crate::day::{says_until, undated};
 use crate::mark::{mark_in, value_in};
-use crate::misspelt::{Misspelt, before_word_end, is_close, misspelt_in, numbered_line};
+use crate::misspelt::{
+    Misspelt, before_word_end, is_close, misspelt_behind, misspelt_in, numbered_line,
+};
+use crate::named::named_in;
 use crate::text_cause::TextCause;
 use crate::text_fault::TextFault;
 use crate::values::{NO_KEY, has_blank, lacks_prefix};
@@ -42,6 +45,8 @@ pub enum Hint<'a> {
     ColonBehindName,
     /// The word of a last day is misspelt, or not first on the line.
     LastDay,
+    /// Its entry cannot have the last day that is in its comment.
+    NoLastDay,
 }
 
 /// The name of an authority that a line begins with.
@@ -65,8 +70,9 @@ impl<'a> Model for LineName<'a> {
 /// misspelt word or last day, and so may what follows the name of an authority. The first line may
 /// begin with a byte order mark. A line that needs a key which is not there may be a fingerprint,
 /// have the name of the key's file, or be an entry with a colon too many. A serial number that is
-/// none may lack its `0x`. A name that is unknown or that of another key may be given by another
-/// line.
+/// none may lack its `0x`, or have a last day behind it, as may hexadecimal digits; the month of
+/// that day may look like a number with a leading zero. A name that is unknown or that of another
+/// key may be given by another line. A key has no last day, and its comment may have one.
 #[tactic(auto, unfolding(crate::specs::Hint::hint_at))]
 pub fn hint_at(text: &[u8], fault: TextFault) -> Option<Hint<'_>>
     ensures { result ≡ hint_at text.now fault.line fault.cause }
@@ -78,6 +84,10 @@ pub fn hint_at(text: &[u8], fault: TextFault) -> Option<Hint<'_>>
         key_hint(content)
     } else if fault.cause == TextCause::Spec(SpecCause::Number) {
         number_hint(content)
+    } else if fault.cause == TextCause::LeadingZero || fault.cause == TextCause::Hex {
+        digits_hint(content)
+    } else if fault.cause == TextCause::DateInComment {
+        comment_hint(content)
     } else if fault.cause == TextCause::MarkedWord {
         behind_hint(content)
     } else if fault.cause == TextCause::OtherKey || fault.cause == TextCause::UnknownName {
@@ -150,7 +160,7 @@ fn has_colon(content: &[u8]) -> bool
         return false;
     };
     match mark.given() {
-        Some(given) => is_entry_value(given),
+        Some(given) => is_entry_value(given) && !is_print(given),
         None => false,
     }
 }
@@ -167,10 +177,33 @@ fn number_hint(content: &[u8]) -> Option<Hint<'static>>
     ensures { result ≡ number_hint content.now }
 {
     let given = value_in(content)?;
+    if says_until(given) {
+        return Some(Hint::LastDay);
+    }
     if lacks_prefix(given) {
         return Some(Hint::Hexadecimal);
     }
     None
+}
+
+// The form that the content of a line may be meant in whose value is no pairs of digits.
+fn digits_hint(content: &[u8]) -> Option<Hint<'static>>
+    ensures { result ≡ digits_hint content.now }
+{
+    if says_until(value_in(content)?) {
+        return Some(Hint::LastDay);
+    }
+    None
+}
+
+// The form that the content of a line may be meant in whose comment has a last day.
+fn comment_hint(content: &[u8]) -> Option<Hint<'static>>
+    ensures { result ≡ comment_hint content.now }
+{
+    if named_in(content).can_end() {
+        return None;
+    }
+    Some(Hint::NoLastDay)
 }
 
 // The form that content may be meant in which has no word behind the name of an authority.
@@ -182,7 +215,10 @@ fn behind_hint(content: &[u8]) -> Option<Hint<'_>>
     if order_in(behind).is_some() {
         return None;
     }
-    spelling_hint(behind)
+    if means_until(behind) {
+        return Some(Hint::LastDay);
+    }
+    Some(Hint::Misspelt(misspelt_behind(behind)?))
 }
 
 // The name of an authority that content begins with.

@@ -20,13 +20,13 @@ ghost use Rattle.text_entries.specs.declared.text_cause.TextCause.{TextCause as 
 use crate::authority::{bytes_of, read_authority, read_authority_blob, read_key, under};
 use crate::authority_names::{AuthorityNames, is_name};
 use crate::day::{dated_content, has_day_in_comment, is_over, last_day, until_in};
+use crate::key_id::{has_control, is_cut, no_id};
 use crate::mark::{Mark, mark_in};
 use crate::named::named_in;
 use crate::standing::Standing;
 use crate::text_cause::TextCause;
 use crate::values::{
-    NO_KEY, begins_with_key, has_control, has_leading_zero, has_zero, is_cut, is_quoted, is_sha1,
-    looks_like_key, looks_like_several, read_blob, read_bytes, read_sha1,
+    NO_KEY, begins_with_key, has_leading_zero, has_zero, is_sha1, read_blob, read_bytes, read_sha1,
 };
 use crate::word::{Order, Word, order_in};
 use key_text::after_blanks;
@@ -35,6 +35,13 @@ use krl_spec::{Directive, SpecCause, Under, add_order, add_subject, ask, bare_li
 use serial_set::Spans;
 use ssh_cert::Subject;
 use std::alloc::Global;
+
+// A line, and its content without a last day.
+#[derive(Clone, Copy)]
+struct Parts<'a> {
+    line: &'a [u8],
+    content: &'a [u8],
+}
 
 /// Does what a line says: its authority is current or has a name from now on, or its entry is held,
 /// unless its last day is over. After a key, a hash or a certificate no authority is current.
@@ -50,16 +57,13 @@ pub fn take_line<S: Spans>(
 {
     let content = bare_line(line);
     match until_in(content) {
-        Some(behind) => take_ending(
-            alloc,
-            revocations,
-            standing,
-            line,
-            dated_content(behind),
-            last_day(behind),
-        ),
+        Some(behind) => {
+            let content = dated_content(behind);
+            let day = last_day(behind);
+            take_ending(alloc, revocations, standing, Parts { line, content }, day)
+        }
         None if is_misplaced(line, content) => Err(TextCause::DateInComment),
-        None => take_content(alloc, revocations, standing, line, content),
+        None => take_content(alloc, revocations, standing, Parts { line, content }),
     }
 }
 
@@ -78,24 +82,23 @@ fn take_ending<S: Spans>(
     alloc: Global,
     revocations: &mut Revocations<S>,
     standing: &mut Standing,
-    line: &[u8],
-    content: &[u8],
+    parts: Parts<'_>,
     day: Option<i32>,
 ) -> Result<(), TextCause>
-    ensures { TakesLine (ending_says standing.old line.now content.now day) result
-        standing.old standing.new revocations.old revocations.new }
+    ensures { TakesLine (ending_says standing.old parts.entry.line.now parts.entry.content.now day)
+        result standing.old standing.new revocations.old revocations.new }
 {
     let Some(day) = day else {
         return Err(TextCause::BadDate);
     };
-    if !named_in(content).can_end() {
+    if !named_in(parts.content).can_end() {
         return Err(TextCause::NoLastDay);
     }
     if !is_over(standing.today, day) {
-        return take_content(alloc, revocations, standing, line, content);
+        return take_content(alloc, revocations, standing, parts);
     }
     let mut unheld: Revocations<S> = Revocations::new(alloc);
-    take_content(alloc, &mut unheld, standing, line, content)?;
+    take_content(alloc, &mut unheld, standing, parts)?;
     standing.over = standing.over.saturating_add(1);
     Ok(())
 }
@@ -106,12 +109,12 @@ fn take_content<S: Spans>(
     alloc: Global,
     revocations: &mut Revocations<S>,
     standing: &mut Standing,
-    line: &[u8],
-    content: &[u8],
+    parts: Parts<'_>,
 ) -> Result<(), TextCause>
-    ensures { TakesLine (content_says standing.old line.now content.now) result
-        standing.old standing.new revocations.old revocations.new }
+    ensures { TakesLine (content_says standing.old parts.entry.line.now parts.entry.content.now)
+        result standing.old standing.new revocations.old revocations.new }
 {
+    let Parts { line, content } = parts;
     if let Some(order) = order_in(content) {
         return take_order(alloc, revocations, standing, line, order);
     }
@@ -294,14 +297,8 @@ fn add_id<S: Spans>(
     if has_control(given) {
         return Err(TextCause::ControlInId);
     }
-    if looks_like_key(given) {
-        return Err(TextCause::KeyAsId);
-    }
-    if is_quoted(given) {
-        return Err(TextCause::QuotedId);
-    }
-    if looks_like_several(given) {
-        return Err(TextCause::SeveralIds);
+    if let Some(cause) = no_id(given) {
+        return Err(cause);
     }
     add_directive(alloc, revocations, under, Directive::Id, given)
 }

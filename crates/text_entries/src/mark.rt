@@ -36,7 +36,7 @@ pub(crate) fn mark_in(content: &[u8]) -> Option<Mark<'_>>
 }
 
 impl<'a> Mark<'a> {
-    // What is behind the name's colon, if one is there: the key that has the name.
+    // The text behind the name's colon, if one is there: the key that has the name.
     pub(crate) fn given(self) -> Option<&'a [u8]>
         ensures { MatchOption result (given_behind self.entry.rest.now ≡ None)
             (λ given. given_behind self.entry.rest.now ≡ Some given.now) }

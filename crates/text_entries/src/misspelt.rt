@@ -3,7 +3,9 @@
 ghost use Rattle.std.specs.Prelude.{◌≡◌, MatchOption, None, Some};
 ghost use Rattle.std.specs.List.{before_first};
 ghost use Rattle.text_entries.specs.Misspelt.{is_close, is_word_end, misspelt_in, numbered_line};
+ghost use Rattle.text_entries.specs.Named.{misspelt_behind};
 
+use crate::named::named_by;
 use crate::one_off::is_one_off;
 use crate::word::Word;
 use key_text::{is_blank, split_line};
@@ -56,6 +58,21 @@ pub(crate) fn misspelt_in(line: &[u8]) -> Option<Misspelt<'_>>
     let word = before_word_end(line);
     let meant = Word::meant(word)?.name();
     Some(Misspelt { word, meant })
+}
+
+/// The misspelt word behind the name of an authority, where a word for certificates is meant.
+pub(crate) fn misspelt_behind(behind: &[u8]) -> Option<Misspelt<'_>>
+    ensures { result ≡ misspelt_behind behind.now }
+{
+    let word = before_word_end(behind);
+    let meant = Word::meant(word)?;
+    if !named_by(meant).can_end() {
+        return None;
+    }
+    Some(Misspelt {
+        word,
+        meant: meant.name(),
+    })
 }
 
 // The part of a line before its first byte that ends a word.

@@ -1,4 +1,4 @@
-//! What lines of the text of a list name, by their form.
+//! The subjects of the lines of the text of a list, by their form.
 
 ghost use Rattle.std.specs.Prelude.{◌≡◌};
 ghost use Rattle.text_entries.specs.Named.{can_end, is_entry, is_plain_key, named_in};
@@ -9,7 +9,7 @@ use crate::misspelt::before_word_end;
 use crate::values::begins_with_key;
 use crate::word::{Word, order_in};
 
-/// What a line names.
+/// The subject of a line.
 #[derive(Clone, Copy, PartialEq, Eq)]
 pub enum Named {
     /// Nothing.
@@ -44,7 +44,7 @@ impl Named {
     }
 }
 
-/// What the content of a line names. It may have a fault.
+/// The subject of the content of a line, which may have a fault.
 pub fn named_in(content: &[u8]) -> Named
     ensures { result ≡ named_in content.now }
 {
@@ -62,8 +62,8 @@ pub fn named_in(content: &[u8]) -> Named
     }
 }
 
-// What a line with this word names.
-fn named_by(word: Word) -> Named
+/// The subject of a line with this word.
+pub(crate) fn named_by(word: Word) -> Named
     ensures { result ≡ word_named_by word }
 {
     match word {

@@ -1,4 +1,4 @@
-//! What stands before a line.
+//! The state before a line.
 
 ghost use Rattle.std.specs.Prelude.{◌≡◌};
 ghost use Rattle.text_entries.specs.Says.{first_standing};
@@ -7,7 +7,7 @@ use crate::authority_names::AuthorityNames;
 use ssh_wire::Bytes;
 use std::alloc::Global;
 
-/// What decides the meaning of a line beside it: the day, and the lines before it.
+/// The day and the lines before a line, which decide its meaning beside its own bytes.
 #[derive(Drop)]
 pub struct Standing {
     /// The day, by its number from 1970-01-01 on.
@@ -31,6 +31,13 @@ impl Standing {
             current: None,
             names: AuthorityNames::new(alloc),
         }
+    }
+
+    /// The names that lines so far gave to authorities.
+    pub fn names(&self) -> &AuthorityNames
+        ensures { result.now ≡ self.now.names }
+    {
+        &self.names
     }
 
     /// How many lines so far had a last day that is over, of up to 64 bits.

@@ -52,10 +52,12 @@ pub enum TextCause {
     NoLastDay,
     /// A last day is in its comment, and not before its entry.
     DateInComment,
+    /// A key ID has the word of a last day and a date, and is not given by its bytes.
+    DateInId,
 }
 
 impl TextCause {
-    /// The fault's number, 1 to 20 in the order of the variants.
+    /// The fault's number, 1 to 21 in the order of the variants.
     pub fn number(self) -> u8
         ensures { result ≡ text_cause_number self }
     {
@@ -80,6 +82,7 @@ impl TextCause {
             TextCause::BadDate => 18,
             TextCause::NoLastDay => 19,
             TextCause::DateInComment => 20,
+            TextCause::DateInId => 21,
         }
     }
 }
@@ -109,6 +112,7 @@ impl fmt::Display for TextCause {
             TextCause::BadDate => f.write_str("text 18 BadDate"),
             TextCause::NoLastDay => f.write_str("text 19 NoLastDay"),
             TextCause::DateInComment => f.write_str("text 20 DateInComment"),
+            TextCause::DateInId => f.write_str("text 21 DateInId"),
         }
     }
 }

@@ -7,10 +7,9 @@ ghost use Rattle.ssh_wire.specs.Reading.{Answers};
 ghost use Rattle.text_entries.specs.TextCause.{Reports};
 ghost use Rattle.run_faults.specs.declared.spec_cause.SpecCause.TheVariants.{Fingerprint};
 ghost use Rattle.text_entries.specs.Values.{begins_with_key, begins_with_zero};
-ghost use Rattle.text_entries.specs.Values.{blob_in, bytes_in, has_blank, has_control};
-ghost use Rattle.text_entries.specs.Values.{has_leading_zero, has_zero, is_bare_hex, is_between};
-ghost use Rattle.text_entries.specs.Values.{is_control, is_cut, is_quoted, is_sha1, lacks_prefix};
-ghost use Rattle.text_entries.specs.Values.{looks_like_key, looks_like_several, sha1_in, sized};
+ghost use Rattle.text_entries.specs.Values.{blob_in, bytes_in, has_blank, has_leading_zero};
+ghost use Rattle.text_entries.specs.Values.{has_zero, is_bare_hex, is_sha1, lacks_prefix};
+ghost use Rattle.text_entries.specs.Values.{sha1_in, sized};
 ghost use Rattle.text_entries.specs.declared.text_cause.TextCause.TheVariants.{Spec};
 
 use crate::text_cause::TextCause;
@@ -25,9 +24,6 @@ use ssh_wire::Bytes;
 use std::alloc::Global;
 
 const SHA1: &[u8] = b"SHA1:";
-
-// The name of each type of keys is shorter.
-const LONGEST: usize = 64;
 
 /// The fault of a value that is to be a key line, and does not begin with the type name of a key.
 pub const NO_KEY: TextCause = TextCause::Spec(SpecCause::Key(KeyCause::Line(LineFault::NoKey)));
@@ -157,15 +153,6 @@ fn has_letter(text: &[u8]) -> bool
     text.iter().any(|byte| byte.is_ascii_alphabetic())
 }
 
-/// Whether a `#` with no blank before it cuts the key ID of a line short.
-#[tactic(auto, unfolding(crate::specs::Values::is_cut))]
-pub fn is_cut(line: &[u8]) -> bool
-    ensures { result ≡ is_cut line.now }
-{
-    let hash = position_of(line, b'#');
-    hash < line.len() && !(hash > 0 && is_blank(line[hash - 1]))
-}
-
 /// Whether the text has a blank.
 pub fn has_blank(text: &[u8]) -> bool
     ensures { result ≡ has_blank text.now }
@@ -173,59 +160,9 @@ pub fn has_blank(text: &[u8]) -> bool
     text.iter().any(|byte| is_blank(*byte))
 }
 
-/// Whether the text begins as a key line: with the type name of a key and a blank.
-pub fn looks_like_key(text: &[u8]) -> bool
-    ensures { result ≡ looks_like_key text.now }
-{
-    has_blank(&text[..LONGEST.min(text.len())]) && begins_with_key(text)
-}
-
-/// Whether a key ID has a control character of ASCII.
-pub fn has_control(id: &[u8]) -> bool
-    ensures { result ≡ has_control id.now }
-{
-    id.iter().any(|byte| is_control(*byte))
-}
-
-// Whether a byte is a control character of ASCII.
-fn is_control(byte: u8) -> bool
-    ensures { result ≡ is_control byte }
-{
-    byte < 32 || byte == 127
-}
-
 /// Whether a key ID has a zero byte, at which OpenSSH would end it.
 pub fn has_zero(id: &[u8]) -> bool
     ensures { result ≡ has_zero id.now }
 {
     id.iter().any(|byte| *byte == 0)
-}
-
-/// Whether a key ID begins and ends with the same quote.
-pub fn is_quoted(id: &[u8]) -> bool
-    ensures { result ≡ is_quoted id.now }
-{
-    is_between(b"\"", id) || is_between(b"'", id)
-}
-
-// Whether a key ID begins and ends with a mark of one byte.
-fn is_between(mark: &[u8], id: &[u8]) -> bool
-    ensures { result ≡ is_between mark.now id.now }
-{
-    id.len() > 1 && id.starts_with(mark) && id.ends_with(mark)
-}
-
-/// Whether a key ID has a comma and a blank, as if several were meant.
-#[tactic(auto, unfolding(crate::specs::Values::looks_like_several))]
-pub fn looks_like_several(id: &[u8]) -> bool
-    ensures { result ≡ looks_like_several id.now }
-{
-    let mut rest = id;
-    'bytes: while let [byte, after @ ..] = rest {
-        if *byte == b',' && after.starts_with(b" ") {
-            return true;
-        }
-        rest = after;
-    }
-    false
 }

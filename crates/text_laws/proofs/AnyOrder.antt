@@ -7,18 +7,15 @@ use Rattle.key_text.specs.Lines.{is_newline}
 use Rattle.krl_types.specs.Entry.{Entry}
 use Rattle.krl_types.specs.Naming.{Name, NamesSame, SomeNames}
 use Rattle.text_entries.specs.AuthorityNames.{NamedKeys}
-use Rattle.text_entries.specs.Lines.{LineEntries, before_later, beginning, lines_from, lines_with}
+use Rattle.text_entries.specs.Lines.{beginning, lines_from, lines_with}
 use Rattle.text_entries.specs.Says.{Blank, Current, Declares, Names, Over, Saying, Under, entry_said, line_says, one_more_over, standing_after}
 use Rattle.text_entries.specs.declared.standing.Standing.{Standing}
 use Rattle.text_entries.specs.declared.text_cause.TextCause.{TextCause}
 use Rattle.text_laws.specs.AnyOrder.{IsFree}
+use Rattle.text_laws.proofs.Entries.{HasEntries, entry_first, listed}
 use Rattle.text_laws.proofs.FreeLines.{placed, says_free}
 
 -- ---- the entries of lines in their order
-
-abbrev listed : Option Entry → List Entry
-listed None = []
-listed (Some entry) = entry ∷ []
 
 abbrev entries_said : Result Saying TextCause → List Entry
 entries_said (Ok saying) = listed (entry_said saying)
@@ -43,28 +40,14 @@ still standing over current (Names entry) keeps = (over, None, refl)
 still standing over current (Over saying) keeps =
     let it = still standing over current saying keeps in (min (it.0 + 1) (2 ^ 64 - 1), it.1, ap one_more_over it.2)
 
--- the lines have these entries and no fault
-record Has (lines : LineEntries) (entries : List Entry) : Type 0 where
-  are : lines.entries ≡ entries
-  faultless : lines.fault ≡ None
-
-said_has : (number : ℕ) (standing : Standing) (saying : Saying) (later : LineEntries) (entries : List Entry) → Has later entries
-    → Has (before_later number standing (Ok saying) (λ after. later)) (listed (entry_said saying) ++ entries)
-said_has number standing Blank later entries has = has
-said_has number standing (Current authority) later entries has = has
-said_has number standing (Declares name key) later entries has = has
-said_has number standing (Over saying) later entries has = has
-said_has number standing (Under entry) later entries has = record { are = ap (λ (es : List Entry). entry ∷ es) has.are; faultless = has.faultless }
-said_has number standing (Names entry) later entries has = record { are = ap (λ (es : List Entry). entry ∷ es) has.are; faultless = has.faultless }
-
 free_entries : (standing : Standing) (over : ℕ) (current : Option (List ℕ)) (number : ℕ) (lines : List (List ℕ)) → All (IsFree standing) lines
-    → Has (lines_from (here standing over current) number lines) (flat_map (line_entries standing) lines)
+    → HasEntries (lines_from (here standing over current) number lines) (flat_map (line_entries standing) lines)
 free_entries standing over current number [] free = record { are = refl; faultless = refl }
 free_entries standing over current number (line ∷ lines) free =
     let is = All-head (IsFree standing) line lines free in
     let after = still standing over current is.saying is.keeps in
     let later = free_entries standing after.0 after.1 (number + 1) lines (All-tail (IsFree standing) line lines free) in
-    let has = said_has number (here standing over current) is.saying (lines_from (here standing after.0 after.1) (number + 1) lines) (flat_map (line_entries standing) lines) later in
+    let has = entry_first (entry_said is.saying) (lines_from (here standing after.0 after.1) (number + 1) lines) (flat_map (line_entries standing) lines) later in
     let says : line_says (here standing over current) line ≡ Ok is.saying = says_free standing over current line (λ none. cc (sym is.says ∙ none)) ∙ is.says in
     rw (says, is.says, after.2) has
 

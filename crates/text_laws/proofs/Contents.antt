@@ -33,10 +33,11 @@ back_stops p xs ys some stops =
 
 -- ---- names and values
 
--- the name of a directive or a word
+-- text before a colon: the name of a word, or that of an authority, or the one behind the other
 pub record IsName (name : List ℕ) : Type 0 where
   pub some : 0 < length name
-  pub solid : AllPass is_solid name
+  pub kept : AllPass is_kept name
+  pub starts : prefix_len is_ending name ≡ 0
   pub no_colon : AllPass (λ byte. not (byte == 58)) name
 
 -- what a line keeps: no line feed and no `#`, and neither end is a blank or a carriage return
@@ -115,10 +116,7 @@ abbrev pub line_of : (name value rest : List ℕ) → List ℕ
 line_of name value rest = name ++ 58 ∷ 32 ∷ (value ++ rest)
 
 name_no_hash : (name : List ℕ) → IsName name → AllPass (λ byte. not (is_hash byte)) name
-name_no_hash name is = All-weaker IsSolid IsNoHash (λ byte solid. kept_no_hash byte (solid_kept byte solid)) name is.solid
-
-name_starts : (name rest : List ℕ) → IsName name → prefix_len is_ending (name ++ rest) ≡ 0
-name_starts name rest is = front_stops is_ending name rest is.some (none_stops is_ending name (All-weaker IsSolid (λ byte. not (is_ending byte) ≡ true) solid_no_ending name is.solid))
+name_no_hash name is = All-weaker IsKept IsNoHash kept_no_hash name is.kept
 
 pub content_is : (name value rest : List ℕ) → IsName name → IsValue value → IsRest rest
     → HasContent (line_of name value rest) name value
@@ -129,7 +127,7 @@ content_is name [] rest is value left =
       remark = left.remark;
       spelled = ap (λ (xs : List ℕ). name ++ 58 ∷ 32 ∷ xs) left.parts ∙ sym (append_assoc name (58 ∷ []) (32 ∷ (left.back ++ left.remark)));
       no_hash = All-append IsNoHash name (58 ∷ []) (name_no_hash name is) (All-cons IsNoHash 58 [] refl (All-nil IsNoHash));
-      starts = name_starts name (58 ∷ []) is;
+      starts = front_stops is_ending name (58 ∷ []) is.some is.starts;
       ends = back_stops is_ending name (58 ∷ []) (omega arith) refl;
       front_is = All-nil (λ byte. is_ending byte ≡ true);
       back_is = All-cons (λ byte. is_ending byte ≡ true) 32 left.back refl left.back_is;
@@ -145,7 +143,7 @@ content_is name (byte ∷ value) rest is kept left =
       spelled = ap (λ (xs : List ℕ). name ++ 58 ∷ 32 ∷ ((byte ∷ value) ++ xs)) left.parts ∙ sym (append_assoc name (58 ∷ 32 ∷ byte ∷ value) (left.back ++ left.remark));
       no_hash = All-append IsNoHash name (58 ∷ 32 ∷ byte ∷ value) (name_no_hash name is)
           (All-cons IsNoHash 58 (32 ∷ byte ∷ value) refl (All-cons IsNoHash 32 (byte ∷ value) refl (All-weaker IsKept IsNoHash kept_no_hash (byte ∷ value) kept.kept)));
-      starts = name_starts name (58 ∷ 32 ∷ byte ∷ value) is;
+      starts = front_stops is_ending name (58 ∷ 32 ∷ byte ∷ value) is.some is.starts;
       ends = ap (suffix_len is_ending) (sym (append_assoc name (58 ∷ 32 ∷ []) (byte ∷ value))) ∙ back_stops is_ending (name ++ 58 ∷ 32 ∷ []) (byte ∷ value) (omega arith) kept.ends;
       front_is = All-nil (λ byte. is_ending byte ≡ true);
       back_is = left.back_is;

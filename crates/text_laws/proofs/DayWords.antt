@@ -1,12 +1,12 @@
 -- Comments without a last day.
-use Rattle.std.proofs.Common.{◌≡◌, ℕ, ◌==◌, ◌&&◌, ◌<◌, Bool, true, false, not, nat_lt, List, [], ◌∷◌, ◌++◌, length, take, drop, slice_index, None, refl, ap, ◌∙◌, arith, inl, inr}
+use Rattle.std.proofs.Common.{◌≡◌, ℕ, ◌==◌, ◌&&◌, ◌<◌, Bool, true, false, not, nat_lt, List, [], ◌∷◌, ◌++◌, length, take, drop, slice_index, refl, ap, ◌∙◌, arith, inl, inr}
 use Rattle.std.specs.List.{AllPass, position_or_len}
-use Rattle.std.proofs.lemmas.Bool.{and_parts, cases_Bool, eqb-true, false≢true}
+use Rattle.std.proofs.lemmas.Bool.{and_parts, cases_Bool, eqb-true, false_from_ne_true, false≢true}
 use Rattle.std.proofs.lemmas.List.Elements.{All-drop, All-tail, All-take}
 use Rattle.krl_spec.specs.Blanks.{is_hash}
 use Rattle.krl_spec.specs.Spelled.{IsRemark}
 use Rattle.krl_spec.proofs.LongestParts.{front_gone}
-use Rattle.text_entries.specs.Day.{after_word_ends, begins_with_day, day_in, has_day_in_comment, is_dated, is_until, says_until}
+use Rattle.text_entries.specs.Day.{after_word_ends, begins_with_day, has_day_in_comment, is_dated, is_until, says_until}
 use Rattle.text_entries.specs.Misspelt.{is_word_end}
 use Rattle.text_entries.specs.Says.{is_misplaced}
 use Rattle.text_laws.proofs.SolidBytes.{IsNoHyphen, is_no_hyphen}
@@ -15,19 +15,16 @@ pub and_false : (test other : Bool) → other ≡ false → test && other ≡ fa
 and_false true other is = is
 and_false false other is = refl
 
--- a text without hyphens is no day
+-- a text without hyphens is no date
 hyphenless : (text : List ℕ) → AllPass is_no_hyphen text → 4 < length text → (slice_index text 4 == 45) ≡ true → ⊥
 hyphenless text clean long is = let e = clean 4 0 long in false≢true (rw is at e)
 
-no_day : (text : List ℕ) → AllPass is_no_hyphen text → day_in text ≡ None
-unfolding day_in
-no_day text clean = elim (cases_Bool (is_dated text)) [
-  | inl dated ↦
-      let parts = and_parts (length text == 10) _ dated in
-      let size : length text ≡ 10 = eqb-true (length text) 10 parts.0 in
-      absurd (hyphenless text clean (omega (arith, size)) (and_parts (slice_index text 4 == 45) _ parts.1).0)
-  | inr other ↦ rw other refl
-]
+no_date : (text : List ℕ) → AllPass is_no_hyphen text → is_dated text ≡ false
+unfolding is_dated
+no_date text clean = false_from_ne_true (is_dated text) (λ dated.
+    let parts = and_parts (length text == 10) _ dated in
+    let size : length text ≡ 10 = eqb-true (length text) 10 parts.0 in
+    hyphenless text clean (omega (arith, size)) (and_parts (slice_index text 4 == 45) _ parts.1).0)
 
 ends_clean : (text : List ℕ) → AllPass is_no_hyphen text → AllPass is_no_hyphen (after_word_ends text)
 unfolding after_word_ends
@@ -44,8 +41,8 @@ no_until [] clean = refl
 no_until (byte ∷ bytes) clean =
     let text : List ℕ = byte ∷ bytes in
     let rest = ends_clean (drop 5 text) (All-drop IsNoHyphen 5 text clean) in
-    let day : day_in (take 10 (after_word_ends (drop 5 text))) ≡ None = no_day _ (All-take IsNoHyphen 10 (after_word_ends (drop 5 text)) rest) in
-    let none : begins_with_day text ≡ false = rw day (and_false (is_until (take 5 text)) false refl) in
+    let none : begins_with_day text ≡ false =
+    and_false (is_until (take 5 text)) _ (no_date (take 10 (after_word_ends (drop 5 text))) (All-take IsNoHyphen 10 (after_word_ends (drop 5 text)) rest)) in
     rw (none, no_until bytes (All-tail IsNoHyphen byte bytes clean)) refl
 
 -- ---- the comment of a line

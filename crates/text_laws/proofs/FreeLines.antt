@@ -3,12 +3,15 @@ use Rattle.std.proofs.Common.{◌≡◌, ◌≢◌, ℕ, ℤ, List, Option, Some
 use Rattle.std.proofs.lemmas.Bool.{cases_Bool}
 use Rattle.run_faults.specs.declared.spec_cause.SpecCause.TheVariants as specs
 use Rattle.krl_spec.specs.Blanks.{bare_line}
+use Rattle.krl_spec.specs.Entries.{order_entry}
+use Rattle.krl_spec.specs.declared.directive.Directive.TheVariants as directives
 use Rattle.text_entries.specs.Day.{dated_content, is_over, last_day, until_in}
 use Rattle.text_entries.specs.Lines.{beginning}
 use Rattle.text_entries.specs.Mark.{Mark, mark_in}
 use Rattle.text_entries.specs.Named.{can_end, named_in}
-use Rattle.text_entries.specs.Says.{content_says, endless_says, ending_says, id_entry, is_misplaced, line_says, order_says, serial_entry, under_says, unless_over, until_says, word_says}
-use Rattle.text_entries.specs.Values.{has_control, has_leading_zero, is_cut, is_quoted, looks_like_key, looks_like_several}
+use Rattle.text_entries.specs.KeyId.{has_control, is_cut, no_id}
+use Rattle.text_entries.specs.Says.{content_says, endless_says, ending_says, id_entry, is_misplaced, line_says, order_says, serial_entry, spec_entry, under_says, unless_cause, unless_over, until_says, word_says}
+use Rattle.text_entries.specs.Values.{has_leading_zero}
 use Rattle.text_entries.specs.Word.{Order, order_in}
 use Rattle.text_entries.specs.declared.standing.Standing.{Standing}
 use Rattle.text_entries.specs.declared.text_cause.TextCause.{TextCause}
@@ -26,22 +29,19 @@ serial_free authority given lacks = elim (cases_Bool (has_leading_zero given)) [
   | inr other ↦ absurd (lacks (rw other refl))
 ]
 
+-- a key ID that looks like something else, or not
+no_id_free : (authority given : List ℕ) (found : Option TextCause) → under_says (unless_cause found (spec_entry (order_entry None directives.Id given))) ≢ Err no_authority
+    → under_says (unless_cause found (spec_entry (order_entry (Some authority) directives.Id given))) ≡ under_says (unless_cause found (spec_entry (order_entry None directives.Id given)))
+no_id_free authority given None lacks = absurd (lacks refl)
+no_id_free authority given (Some cause) lacks = refl
+
 id_free : (authority line given : List ℕ) → under_says (id_entry None line given) ≢ Err no_authority
     → under_says (id_entry (Some authority) line given) ≡ under_says (id_entry None line given)
 id_free authority line given lacks = elim (cases_Bool (is_cut line)) [
   | inl cut ↦ rw cut refl
   | inr whole ↦ elim (cases_Bool (has_control given)) [
     | inl control ↦ rw (whole, control) refl
-    | inr clean ↦ elim (cases_Bool (looks_like_key given)) [
-      | inl key ↦ rw (whole, clean, key) refl
-      | inr other ↦ elim (cases_Bool (is_quoted given)) [
-        | inl quoted ↦ rw (whole, clean, other, quoted) refl
-        | inr bare ↦ elim (cases_Bool (looks_like_several given)) [
-          | inl several ↦ rw (whole, clean, other, bare, several) refl
-          | inr one ↦ absurd (lacks (rw (whole, clean, other, bare, one) refl))
-        ]
-      ]
-    ]
+    | inr clean ↦ rw (whole, clean) (no_id_free authority given (no_id given) (λ none. lacks (rw (whole, clean) none)))
   ]
 ]
 

@@ -1,6 +1,7 @@
 -- Lines of key IDs.
 use Rattle.std.proofs.lemmas.Grind.{common_steps}
-use Rattle.std.proofs.Common.{◌≡◌, ◌≢◌, ℕ, ◌==◌, ◌&&◌, ◌||◌, nat_eq, Bool, true, false, not, List, [], ◌∷◌, ◌++◌, length, codes, Contains, Some, Ok, refl, sym, ap, subst, ◌∙◌, arith, inl, inr}
+use Rattle.std.proofs.Common.{◌≡◌, ◌≢◌, ℕ, ◌==◌, ◌&&◌, nat_eq, Bool, true, false, not, List, [], ◌∷◌, ◌++◌, length, codes, Contains, Option, Some, None, Ok, refl, sym, ap, subst, ◌∙◌, arith, inl, inr}
+use Rattle.std.specs.Prelude.{is_some}
 use Rattle.std.specs.List.{AllPass, ends_with, list_all, prefix_len, starts_with, suffix_len}
 use Rattle.std.proofs.lemmas.Bool.{and_parts, cases_Bool, eqb-true, not-true, or_cases, or_parts}
 use Rattle.std.proofs.lemmas.Bool.Decides.{Decides-eqb}
@@ -18,15 +19,18 @@ use Rattle.krl_spec.specs.Blanks.{is_hash}
 use Rattle.krl_spec.specs.Entries.{order_entry}
 use Rattle.krl_spec.specs.declared.directive.Directive.TheVariants as directives
 use Rattle.krl_spec.proofs.LongestParts.{no_cut}
-use Rattle.list_text.specs.Text.{has_blank_end, id_line, is_text, is_text_byte, looks_otherwise}
+use Rattle.list_text.specs.Text.{has_blank_end, id_line, is_text, is_text_byte, looks_otherwise, name_part}
+use Rattle.text_entries.specs.KeyId.{has_control, is_control, is_cut, no_id}
 use Rattle.text_entries.specs.Says.{Under}
-use Rattle.text_entries.specs.Values.{bytes_in, has_control, has_zero, is_control, is_cut, is_quoted, looks_like_key, looks_like_several}
+use Rattle.text_entries.specs.Values.{bytes_in, has_zero}
 use Rattle.text_entries.specs.Word.{word_named}
 use Rattle.text_entries.specs.declared.standing.Standing.{Standing}
+use Rattle.text_entries.specs.declared.text_cause.TextCause.{TextCause}
 use Rattle.text_entries.specs.declared.word.Word.TheVariants as words
-use Rattle.text_laws.proofs.Contents.{IsName, IsValue, line_no_hash, line_of, nothing_left, solid_value}
-use Rattle.text_laws.proofs.LineReads.{Reads, line_reads, literal_name, plain_text}
-use Rattle.text_laws.proofs.Orders.{word_line_says}
+use Rattle.text_laws.specs.FactLines.{IsUnder}
+use Rattle.text_laws.proofs.Contents.{IsName, IsValue, line_no_hash, line_of, solid_value}
+use Rattle.text_laws.proofs.LineReads.{Reads, literal_name}
+use Rattle.text_laws.proofs.Marks.{entry_reads, part_name}
 use Rattle.text_laws.proofs.SolidBytes.{IsKept, hex_solid}
 
 -- ---- a key ID as it is
@@ -60,26 +64,24 @@ record IsText (id : List ℕ) : Type 0 where
   some : id ≢ []
   no_start : starts_with nat_eq id (codes " ") ≡ false
   no_end : ends_with nat_eq id (codes " ") ≡ false
-  no_key : looks_like_key id ≡ false
-  no_quotes : is_quoted id ≡ false
-  is_one : looks_like_several id ≡ false
+  is_id : no_id id ≡ None
   each : AllPass is_text_byte id
+
+none_found : (found : Option TextCause) → is_some found ≡ false → found ≡ None
+none_found None is = refl
+none_found (Some cause) is = absurd cc
 
 text_is : (id : List ℕ) → is_text id ≡ true → IsText id
 text_is id is =
     let parts = and_parts (not (length id == 0)) (not (has_blank_end id) && (not (looks_otherwise id) && list_all is_text_byte id)) is in
     let others = and_parts (not (has_blank_end id)) (not (looks_otherwise id) && list_all is_text_byte id) parts.1 in
     let last = and_parts (not (looks_otherwise id)) (list_all is_text_byte id) others.1 in
-    let none = or_parts (looks_like_key id) (is_quoted id || looks_like_several id) (not-true (looks_otherwise id) last.0) in
-    let neither = or_parts (is_quoted id) (looks_like_several id) none.1 in
     let blanks = or_parts (starts_with nat_eq id (codes " ")) (ends_with nat_eq id (codes " ")) (not-true (has_blank_end id) others.0) in
     record {
       some = λ none. let empty : not (length id == 0) ≡ false = rw none refl in cc;
       no_start = blanks.0;
       no_end = blanks.1;
-      no_key = none.0;
-      no_quotes = neither.0;
-      is_one = neither.1;
+      is_id = none_found (no_id id) (not-true (looks_otherwise id) last.0);
       each = AllPass-from_list_all is_text_byte id last.1;
     }
 
@@ -120,14 +122,14 @@ id_entry : (authority id : List ℕ) → id ≢ []
 id_entry authority [] some = absurd (some refl)
 id_entry authority (byte ∷ id) some = refl
 
-plain_read : (standing : Standing) (authority id : List ℕ) → standing.current ≡ Some authority → IsText id
-    → Reads standing (codes "id: " ++ (id ++ codes "\n")) (Under (IdEntry authority id))
-plain_read standing authority id under is =
+plain_read : (standing : Standing) (named : Option (List ℕ)) (authority id : List ℕ) → IsUnder standing named authority → IsText id
+    → Reads standing (name_part named ++ (codes "id: " ++ (id ++ codes "\n"))) (Under (IdEntry authority id))
+plain_read standing named authority id under is =
     let kept = text_value id is in
-    let line : List ℕ = line_of (codes "id") id [] in
-    let uncut : is_cut line ≡ false = whole line (line_no_hash (codes "id") id id_name kept) in
-    line_reads standing (codes "id") id [] (codes "id: " ++ (id ++ codes "\n")) (Under (IdEntry authority id)) id_name kept nothing_left (plain_text (codes "id") id)
-    (word_line_says standing (codes "id") id [] words.Id id_name kept nothing_left id_word ∙ rw (under, uncut, uncontrolled id is, is.no_key, is.no_quotes, is.is_one, id_entry authority id is.some) refl)
+    let before : List ℕ = name_part named ++ codes "id" in
+    let uncut : is_cut (line_of before id []) ≡ false = whole (line_of before id []) (line_no_hash before id (part_name standing named authority (codes "id") under id_name) kept) in
+    entry_reads standing named authority (codes "id") id (codes "id: " ++ (id ++ codes "\n")) words.Id (IdEntry authority id) under id_name kept id_word refl refl
+    (rw (uncut, uncontrolled id is, is.is_id, id_entry authority id is.some) refl)
 
 -- ---- a key ID by its bytes
 
@@ -142,19 +144,17 @@ bytes_again : (id : List ℕ) → IsBytes id → bytes_in (encode_lower id) ≡ 
 unfolding bytes_in
 bytes_again id bytes = rw (decode_of-encode_lower id bytes) refl
 
-hex_read : (standing : Standing) (authority id : List ℕ) → standing.current ≡ Some authority → IsBytes id → has_zero id ≡ false
-    → Reads standing (codes "id-hex: " ++ (encode_lower id ++ codes "\n")) (Under (IdEntry authority id))
-hex_read standing authority id under bytes whole =
-    let kept = solid_value (encode_lower id) (hex_solid id) in
-    line_reads standing (codes "id-hex") (encode_lower id) [] (codes "id-hex: " ++ (encode_lower id ++ codes "\n")) (Under (IdEntry authority id)) hex_name kept nothing_left
-    (plain_text (codes "id-hex") (encode_lower id))
-    (word_line_says standing (codes "id-hex") (encode_lower id) [] words.IdHex hex_name kept nothing_left hex_word ∙ rw (under, bytes_again id bytes, whole) refl)
+hex_read : (standing : Standing) (named : Option (List ℕ)) (authority id : List ℕ) → IsUnder standing named authority → IsBytes id → has_zero id ≡ false
+    → Reads standing (name_part named ++ (codes "id-hex: " ++ (encode_lower id ++ codes "\n"))) (Under (IdEntry authority id))
+hex_read standing named authority id under bytes whole =
+    entry_reads standing named authority (codes "id-hex") (encode_lower id) (codes "id-hex: " ++ (encode_lower id ++ codes "\n")) words.IdHex (IdEntry authority id) under hex_name
+    (solid_value (encode_lower id) (hex_solid id)) hex_word refl refl (rw (bytes_again id bytes, whole) refl)
 
 -- ---- any key ID
 
-pub id_reads : (standing : Standing) (authority id : List ℕ) → standing.current ≡ Some authority → IsBytes id → has_zero id ≡ false
-    → Reads standing (id_line id) (Under (IdEntry authority id))
-id_reads standing authority id under bytes whole = elim (cases_Bool (is_text id)) [
-  | inl text ↦ rw text (plain_read standing authority id under (text_is id text))
-  | inr other ↦ rw other (hex_read standing authority id under bytes whole)
+pub id_reads : (standing : Standing) (named : Option (List ℕ)) (authority id : List ℕ) → IsUnder standing named authority → IsBytes id → has_zero id ≡ false
+    → Reads standing (name_part named ++ id_line id) (Under (IdEntry authority id))
+id_reads standing named authority id under bytes whole = elim (cases_Bool (is_text id)) [
+  | inl text ↦ rw text (plain_read standing named authority id under (text_is id text))
+  | inr other ↦ rw other (hex_read standing named authority id under bytes whole)
 ]

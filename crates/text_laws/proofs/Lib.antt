@@ -5,13 +5,17 @@ mod DayWords
 mod Contents
 mod Orders
 mod LineReads
+mod Marks
 mod SerialLines
 mod IdLines
 mod KeyValues
 mod NamedLines
 mod HashLines
 mod CommentLines
+mod Entries
 mod FactLines
+mod KnownNames
+mod DeclaredNames
 mod HeldTexts
 mod ReadBytes
 mod ShownLists

@@ -5,8 +5,8 @@ use Rattle.std.proofs.lemmas.List.Elements.{All-append, All-cons, All-weaker}
 use Rattle.std.proofs.lemmas.List.Sums.{AllPass-from_list_all}
 use Rattle.text_entries.specs.Says.{Saying, line_says}
 use Rattle.text_entries.specs.declared.standing.Standing.{Standing}
-use Rattle.text_laws.proofs.Contents.{IsName, IsRest, IsValue, line_of}
-use Rattle.text_laws.proofs.SolidBytes.{HasNoFeed, IsKept, IsSolid, is_solid, kept_no_feed, solid_kept}
+use Rattle.text_laws.proofs.Contents.{IsName, IsRest, IsValue, line_of, solid_value}
+use Rattle.text_laws.proofs.SolidBytes.{HasNoFeed, IsKept, is_solid, kept_no_feed}
 
 -- A text is a line and its line feed, and the line says this.
 pub record Reads (standing : Standing) (text : List ℕ) (saying : Saying) : Type 0 where
@@ -17,16 +17,14 @@ pub record Reads (standing : Standing) (text : List ℕ) (saying : Saying) : Typ
 
 pub literal_name : (name : List ℕ) → 0 < length name → list_all is_solid name ≡ true
     → list_all (λ byte. not (byte == 58)) name ≡ true → IsName name
-literal_name name some solid clean = record {
-  some = some;
-  solid = AllPass-from_list_all is_solid name solid;
-  no_colon = AllPass-from_list_all (λ byte. not (byte == 58)) name clean;
-}
+literal_name name some solid clean =
+    let value = solid_value name (AllPass-from_list_all is_solid name solid) in
+    record { some = some; kept = value.kept; starts = value.starts; no_colon = AllPass-from_list_all (λ byte. not (byte == 58)) name clean }
 
 line_no_feed : (name value rest : List ℕ) → IsName name → IsValue value → IsRest rest
     → All HasNoFeed (line_of name value rest)
 line_no_feed name value rest is kept left =
-    All-append HasNoFeed name (58 ∷ 32 ∷ (value ++ rest)) (All-weaker IsSolid HasNoFeed (λ byte solid. kept_no_feed byte (solid_kept byte solid)) name is.solid)
+    All-append HasNoFeed name (58 ∷ 32 ∷ (value ++ rest)) (All-weaker IsKept HasNoFeed kept_no_feed name is.kept)
     (All-cons HasNoFeed 58 (32 ∷ (value ++ rest)) refl (All-cons HasNoFeed 32 (value ++ rest) refl
     (All-append HasNoFeed value rest (All-weaker IsKept HasNoFeed kept_no_feed value kept.kept) left.no_feed)))
 

@@ -1,5 +1,5 @@
 -- Lines of certificate authorities and keys.
-use Rattle.std.proofs.Common.{◌≡◌, ◌≢◌, ℕ, ◌==◌, false, List, [], ◌∷◌, ◌++◌, length, All, codes, Some, Result, Ok, Err, refl, ◌∙◌, arith}
+use Rattle.std.proofs.Common.{◌≡◌, ◌≢◌, ℕ, ◌==◌, false, List, [], ◌∷◌, ◌++◌, length, All, codes, true, Option, None, Some, Result, Ok, Err, refl, ap, ◌∙◌, arith}
 use Rattle.std.proofs.lemmas.Bool.{ne_eqb}
 use Rattle.std.specs.List.{AllPass}
 use Rattle.std.proofs.lemmas.List.Sums.{AllPass-from_list_all}
@@ -22,14 +22,18 @@ use Rattle.krl_spec.specs.Entries.{order_entry}
 use Rattle.krl_spec.specs.Keys.{plain_in}
 use Rattle.krl_spec.specs.declared.directive.Directive.TheVariants as directives
 use Rattle.list_text.specs.Text.{authority_line, key_line, named_line}
-use Rattle.text_entries.specs.Says.{Current, Names}
-use Rattle.text_entries.specs.Values.{authority_blob_in, authority_in, authority_key_in, blob_in, is_all, some_bytes}
+use Rattle.text_entries.specs.AuthorityNames.{can_have}
+use Rattle.text_entries.specs.Says.{Current, Declares, Names, declares, name_says}
+use Rattle.text_entries.specs.Values.{authority_blob_in, authority_in, authority_key_in, bare_authority_in, blob_in, is_all, some_bytes}
 use Rattle.text_entries.specs.Word.{word_named}
 use Rattle.text_entries.specs.declared.standing.Standing.{Standing}
 use Rattle.text_entries.specs.declared.word.Word.TheVariants as words
+use Rattle.text_laws.specs.FactLines.{CanDeclare, authority_says}
+use Rattle.text_laws.specs.Names.{CanBeNamed}
 use Rattle.text_laws.proofs.Contents.{IsName, IsRest, comment_left, nothing_left, solid_value}
 use Rattle.text_laws.proofs.KeyValues.{begins_named, key_is_value, key_subject, key_value}
 use Rattle.text_laws.proofs.LineReads.{Reads, comment_text, line_reads, literal_name, plain_text}
+use Rattle.text_laws.proofs.Marks.{declared_says, mark_name}
 use Rattle.text_laws.proofs.Orders.{word_line_says}
 use Rattle.text_laws.proofs.SolidBytes.{HasNoFeed, IsNoHyphen, IsSolid, base64_solid, is_no_hyphen, is_solid, kept_no_feed, solid_kept, unpadded_no_hyphen, unpadded_solid}
 
@@ -90,11 +94,16 @@ not_all Ed25519 rest = refl
 not_all EcdsaSk rest = refl
 not_all Ed25519Sk rest = refl
 
+bare_again : (blob : List ℕ) (key : PublicKey) (bytes : IsBytes blob) (read : key_at blob ≡ Ok key)
+    → bare_authority_in (key_value blob key bytes read) ≡ Ok blob
+unfolding authority_key_in
+bare_again blob key bytes read =
+    rw (begins_named key.kind (encode_of standard blob), key_subject blob key bytes read) refl
+
 authority_again : (blob : List ℕ) (key : PublicKey) (bytes : IsBytes blob) (read : key_at blob ≡ Ok key)
     → authority_in (key_value blob key bytes read) ≡ Ok blob
-unfolding authority_in authority_key_in
-authority_again blob key bytes read =
-    rw (not_all key.kind (encode_of standard blob), begins_named key.kind (encode_of standard blob), key_subject blob key bytes read) refl
+unfolding authority_in
+authority_again blob key bytes read = rw (not_all key.kind (encode_of standard blob)) (bare_again blob key bytes read)
 
 some_again : (blob : List ℕ) → blob ≢ [] → some_bytes blob ≡ Ok blob
 some_again [] some = absurd (some refl)
@@ -121,10 +130,25 @@ named_authority standing blob bytes some (Err fault) read =
     line_reads standing (codes "ca-blob") value [] (named_line (codes "ca") blob (Err fault)) (Current blob) blob_name kept nothing_left (plain_text (codes "ca-blob") value)
     (word_line_says standing (codes "ca-blob") value [] words.AuthorityBlob blob_name kept nothing_left blob_word ∙ rw (authority_blob_again blob bytes some) refl)
 
-pub authority_reads : (standing : Standing) (authority : List ℕ) → IsBytes authority
-    → Reads standing (authority_line authority) (Current authority)
-authority_reads standing [] bytes = all_read standing
-authority_reads standing (byte ∷ authority) bytes =
+-- an authority that is given a name
+declared_authority : (standing : Standing) (name blob : List ℕ) → IsBytes blob → CanBeNamed name blob → can_have standing.names name blob ≡ true
+    → Reads standing (authority_line (Some name) blob) (Declares name blob)
+declared_authority standing name blob bytes can free =
+    let key : PublicKey = can.key in
+    let kept = key_is_value blob key bytes can.read in
+    let rest : List ℕ = 32 ∷ 35 ∷ 32 ∷ fingerprint_text Sha256 blob in
+    let value : List ℕ = key_value blob key bytes can.read in
+    let again : declares standing.names name value ≡ Ok blob = rw (can.named, bare_again blob key bytes can.read, free) refl in
+    rw can.read
+    (line_reads standing (64 ∷ name) value rest (64 ∷ named_line name blob (Ok key)) (Declares name blob) (mark_name name can.named) kept (print_left blob)
+    (comment_text (64 ∷ name) (type_name key.kind) (encode_of standard blob) (fingerprint_text Sha256 blob))
+    (declared_says standing name value rest can.named kept (print_left blob) ∙ ap (name_says name) again))
+
+pub authority_reads : (standing : Standing) (named : Option (List ℕ)) (authority : List ℕ) → IsBytes authority → CanDeclare standing.names named authority
+    → Reads standing (authority_line named authority) (authority_says named authority)
+authority_reads standing (Some name) authority bytes can = declared_authority standing name authority bytes can.0 can.1
+authority_reads standing None [] bytes can = all_read standing
+authority_reads standing None (byte ∷ authority) bytes can =
     let some : (length (byte ∷ authority) == 0) ≡ false = ne_eqb (length (byte ∷ authority)) 0 (λ none. absurd (omega (arith, none))) in
     rw some (named_authority standing (byte ∷ authority) bytes (λ none. absurd cc) (key_at (byte ∷ authority)) refl)
 

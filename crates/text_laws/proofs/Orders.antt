@@ -16,14 +16,19 @@ use Rattle.text_laws.proofs.DayWords.{not_misplaced}
 
 -- ---- the name and the value
 
-order_is : (name gap value : List ℕ) → AllPass (λ byte. not (byte == 58)) name → AllPass is_blank gap
+-- text behind blanks
+pub behind_blanks : (blanks text : List ℕ) → AllPass is_blank blanks → prefix_len is_blank text ≡ 0 → after_blanks (blanks ++ text) ≡ text
+unfolding after_blanks
+behind_blanks blanks text each starts = front_gone is_blank blanks text each starts
+
+pub order_is : (name gap value : List ℕ) → AllPass (λ byte. not (byte == 58)) name → AllPass is_blank gap
     → prefix_len is_blank value ≡ 0
     → order_in (name ++ 58 ∷ (gap ++ value)) ≡ option_map (order value) (word_named name)
-unfolding order_in after_blanks
+unfolding order_in
 order_is name gap value clean blanks starts =
     let cut = cut_again 58 name (gap ++ value) clean in
     let following : after_blanks (drop (position_or_len is_colon (name ++ 58 ∷ (gap ++ value)) + 1) (name ++ 58 ∷ (gap ++ value))) ≡ value =
-    ap after_blanks cut.after ∙ front_gone is_blank gap value blanks starts in
+    ap after_blanks cut.after ∙ behind_blanks gap value blanks starts in
     rw (cut.within, following, cut.before) refl
 
 -- ---- the line

@@ -104,7 +104,7 @@ none_is content is = elim (cases_Bool (nat_lt (position_or_len is_colon content)
 alike : (current : Option (List ℕ)) (line given : List ℕ) (directive : Directive) → IsReadAlike line directive given
     → word_says current line (word_of directive) given ≡ spec_says directive (order_entry current directive given)
 alike current line given directives.Serial is = rw is refl
-alike current line given directives.Id is = rw (is.0, is.1, is.2, is.3, is.4) refl
+alike current line given directives.Id is = rw (is.0, is.1, is.2) refl
 alike current line given directives.Key is = rw is refl
 alike current line given directives.Sha1 is = rw is refl
 alike current line given directives.Sha256 is = rw is refl

@@ -1,4 +1,5 @@
 pub mod Joined
+pub mod Names
 pub mod FactLines
 pub mod ReadBack
 pub mod MadeLists

@@ -3,16 +3,12 @@ use Rattle.std.specs.Prelude.{ℕ, Bool, List, [], ◌∷◌, Ok}
 use Rattle.krl_entries.specs.Revocations.{Means, Revocations}
 use Rattle.krl_format.specs.declared.header.Header.{Header}
 use Rattle.krl_writer.specs.KrlText.{IsKrlText}
-use Rattle.text_laws.specs.ReadBack.{Shown, entries_of_lists, text_of_lists}
+use Rattle.text_laws.specs.ReadBack.{Shown, entries_of_lists}
 use Rattle.text_run.specs.Making.{Text}
 
 -- a text with this name, as the only one that a list is made of, from a regular file or not
 abbrev pub only_text : (is_file : Bool) → (name text : List ℕ) → List Text
 only_text is_file name text = record { name = name; is_file = is_file; content = Ok text } ∷ []
-
--- the texts of lists, one after the other, as the only text that another list is made of
-abbrev pub only_text_of : (is_file : Bool) → (name : List ℕ) → List Shown → List Text
-only_text_of is_file name lists = only_text is_file name (text_of_lists lists)
 
 -- The bytes are those of a list with this header that names exactly what the lists name.
 pub record IsMergedOf (lists : List Shown) (header : Header) (bytes : List ℕ) : Type 0 where

@@ -8,6 +8,7 @@ use Rattle.krl_format.specs.declared.header.Header.{Header}
 use Rattle.krl_types.specs.Entry.{Entry}
 use Rattle.list_text.specs.Facts.{Fact, ListFact, facts_of}
 use Rattle.list_text.specs.Text.{fact_line}
+use Rattle.text_entries.specs.AuthorityNames.{NameOfKey}
 use Rattle.text_entries.specs.Lines.{lines_of}
 use Rattle.text_entries.specs.Reading.{ReadsText}
 use Rattle.text_entries.specs.Says.{first_standing}
@@ -62,9 +63,9 @@ pub record CanBeShown (list : Shown) : Type 0 where
 abbrev pub facts_about : Shown → List Fact
 facts_about list = ListFact list.name list.header ∷ facts_of list.contents
 
--- the texts of lists, one after the other
-abbrev pub text_of_lists : List Shown → List ℕ
-text_of_lists lists = concat (map fact_line (flat_map facts_about lists))
+-- the texts of lists, one after the other, by the names of authorities
+abbrev pub text_of_lists : NameOfKey → List Shown → List ℕ
+text_of_lists names lists = concat (map (fact_line names) (flat_map facts_about lists))
 
 abbrev pub entries_of_lists : List Shown → List Entry
 entries_of_lists lists = flat_map (λ list. entries_in list.contents) lists

@@ -7,10 +7,10 @@ use Rattle.krl_spec.specs.declared.directive.Directive.TheVariants.{Serial, Id, 
 use Rattle.krl_spec.specs.declared.directive.Directive.TheVariants.{Sha256, Hash}
 use Rattle.krl_types.specs.Entry.{Entry}
 use Rattle.run_faults.specs.declared.spec_cause.SpecCause.{SpecCause}
+use Rattle.text_entries.specs.KeyId.{has_control, is_cut, no_id}
 use Rattle.text_entries.specs.Says.{Blank, Saying, has_zero_id, names_says, spec_entry}
 use Rattle.text_entries.specs.Says.{under_says}
-use Rattle.text_entries.specs.Values.{begins_with_key, has_control, has_leading_zero, is_cut}
-use Rattle.text_entries.specs.Values.{is_quoted, is_sha1, looks_like_key, looks_like_several}
+use Rattle.text_entries.specs.Values.{begins_with_key, has_leading_zero, is_sha1}
 use Rattle.text_entries.specs.declared.text_cause.TextCause.{TextCause}
 
 -- what a line of a specification file says: an entry under the current authority, or another
@@ -25,13 +25,11 @@ bare_says None = Ok Blank
 bare_says (Some read) = names_says (spec_entry read)
 
 -- Texts refuse a serial number with a leading zero, a key ID that is cut short, that has a control
--- character, that begins as a key, that is between quotes or that looks like several, and anything
--- before a key. They take a SHA-1 too.
+-- character or that looks like something else, and anything before a key. They take a SHA-1 too.
 abbrev pub IsReadAlike : List ℕ → Directive → List ℕ → Type 0
 IsReadAlike line Serial given = has_leading_zero given ≡ false
 IsReadAlike line Id given =
-    (is_cut line ≡ false) × (has_control given ≡ false) × (looks_like_key given ≡ false)
-    × (is_quoted given ≡ false) × (looks_like_several given ≡ false)
+    (is_cut line ≡ false) × (has_control given ≡ false) × (no_id given ≡ None)
 IsReadAlike line Key given = begins_with_key given ≡ true
 IsReadAlike line Sha1 given = begins_with_key given ≡ true
 IsReadAlike line Sha256 given = begins_with_key given ≡ true

@@ -6,7 +6,8 @@ use Rattle.krl_types.specs.declared.krl_fault.KrlFault.{KrlFault}
 use Rattle.list_making.specs.Target.{Old}
 use Rattle.text_run.specs.Base.{IsReadOver, Krl, base_in, empty, new_base, takes_contents, unknown}
 use Rattle.text_run.specs.Fault.{MakeFault}
-use Rattle.text_run.specs.Making.{AddsTexts, HoldsMore, day_at}
+use Rattle.text_entries.specs.declared.standing.Standing.{Standing}
+use Rattle.text_run.specs.Making.{AddsTexts, HoldsMore, day_at, only_entries}
 use Rattle.text_run.specs.Over.{IsEnough, IsHeld, IsMadeOver, IsMerged, IsRefused, IsTooLittle, MakesOver, entries_asked, too_little}
 use Rattle.text_run.specs.declared.base.Base.{Base}
 use Rattle.text_run.specs.declared.inputs.Inputs.{Inputs}
@@ -14,13 +15,13 @@ use Rattle.text_run.specs.declared.inputs.Over.{Over}
 use Rattle.text_run.specs.declared.inputs.Over.TheVariants.{Nothing, Version, Contents}
 use Rattle.text_run.specs.declared.listed.Merged.{Merged}
 
-pub texts_held : (inputs : Inputs) (listed : Revocations) (over : ℕ) → AddsTexts (day_at inputs.date) inputs.texts.now (Ok over) nothing listed
+pub texts_held : (inputs : Inputs) (listed : Revocations) (standing : Standing) → AddsTexts (day_at inputs.date) inputs.texts.now (Ok standing) nothing listed
     → IsEnough inputs listed → IsHeld inputs listed
-texts_held inputs listed over (entries, read, count, adds) enough = record { entries = entries; read = read; adds = adds; enough = enough }
+texts_held inputs listed standing (entries, read, adds) enough = record { entries = entries; read = ap only_entries read; adds = adds; enough = enough }
 
-pub texts_too_little : (inputs : Inputs) (listed : Revocations) (over : ℕ) (fault : MakeFault) → AddsTexts (day_at inputs.date) inputs.texts.now (Ok over) nothing listed
+pub texts_too_little : (inputs : Inputs) (listed : Revocations) (standing : Standing) (fault : MakeFault) → AddsTexts (day_at inputs.date) inputs.texts.now (Ok standing) nothing listed
     → IsTooLittle inputs listed fault → IsRefused inputs fault
-texts_too_little inputs listed over fault (entries, read, count, adds) little = too_little entries listed read adds little
+texts_too_little inputs listed standing fault (entries, read, adds) little = too_little entries listed (ap only_entries read) adds little
 
 -- ---- over the old list
 

@@ -12,7 +12,7 @@ use Rattle.text_entries.specs.declared.standing.Standing.{Standing}
 use Rattle.text_entries.specs.declared.text_cause.TextCause.{TextCause}
 use Rattle.text_entries.specs.declared.text_cause.TextCause.TheVariants as text_causes
 use Rattle.text_run.specs.Fault.{MakeFault, line_fault}
-use Rattle.text_run.specs.Making.{AddsText, AddsTexts, HoldsMore, IsMakeFault, LacksMemoryAt, TextEntries, Text, bytes_from, only_entries, only_over, text_from, texts_entries, texts_from, texts_on, then_from}
+use Rattle.text_run.specs.Making.{AddsText, AddsTexts, HoldsMore, IsMakeFault, LacksMemoryAt, TextEntries, Text, bytes_from, only_entries, text_from, texts_entries, texts_from, texts_on, then_from}
 use Rattle.text_run.specs.declared.make_fault.MakeCause.{MakeCause}
 use Rattle.text_run.specs.declared.make_fault.MakeCause.TheVariants.{Run}
 
@@ -150,11 +150,11 @@ pub text_stops : (today : ℕ) (texts : List Text) (text : Text) (left : List Te
 text_stops today texts text left standing fault old mid at is = stops_for today texts text left standing fault old mid at fault.cause is
 
 pub all_added : (today : ℕ) (texts : List Text) (standing : Standing) (old new : Revocations) → IsAt today texts [] standing old new
-    → AddsTexts today texts (Ok standing.over) old new
+    → AddsTexts today texts (Ok standing) old new
 all_added today texts standing old new at =
     let whole : texts_on today texts ≡ Ok (record { entries = at.entries; standing = standing }) =
     ap (λ (ts : List Text). texts_on today ts) (at.parts ∙ append-nil at.before) ∙ at.read in
-    (at.entries, ap only_entries whole, ap only_over whole, at.held_are)
+    (at.entries, whole, at.held_are)
 
 -- the texts from a place on are the one there and the others
 pub texts_next : (texts : List Text) (i : ℕ) (text : Text) → text ≡ get_or texts i text → i < length texts → drop i texts ≡ text ∷ drop (i + 1) texts

@@ -1,6 +1,7 @@
 -- Making a list of texts (krl(1), KRL MAKE).
 use Rattle.std.specs.Prelude.{◌≡◌, ◌≢◌, ℕ, Bool, false, ◌+◌, ◌/◌, ◌≤◌, ◌<◌, ◌⊎◌}
-use Rattle.std.specs.Prelude.{List, [], ◌∷◌, ◌++◌, length, Option, Some, None, Result, Ok, Err}
+use Rattle.std.specs.Prelude.{List, [], ◌∷◌, ◌++◌, codes, length, Option, Some, None, Result, Ok}
+use Rattle.std.specs.Prelude.{Err}
 use Rattle.ssh_wire.specs.Reading.{◌>>=◌, in_fault}
 use Rattle.run_faults.specs.declared.cause.Cause.{Cause}
 use Rattle.run_faults.specs.declared.cause.Cause.TheVariants as causes
@@ -13,6 +14,7 @@ use Rattle.krl_writer.specs.KrlText.{IsKrlText}
 use Rattle.list_text.specs.Counts.{counted_all, nothing_counted}
 use Rattle.list_text.specs.Facts.{facts_of}
 use Rattle.list_text.specs.declared.counts.Counts.{Counts}
+use Rattle.text_entries.specs.AuthorityNames.{NamedKeys, key_named, name_of}
 use Rattle.text_entries.specs.Lines.{LineEntries, lines_with}
 use Rattle.text_entries.specs.Says.{first_standing}
 use Rattle.text_entries.specs.declared.standing.Standing.{Standing}
@@ -129,14 +131,29 @@ AddsText name read (Ok done) after old new =
 AddsText name read (Err fault) after old new =
     IsMakeFault (λ other. other ≡ name) fault.cause read fault
 
--- the entries of all texts, and how many lines had a last day that is over
-abbrev pub AddsTexts : (today : ℕ) → List Text → Result ℕ MakeFault → (old new : Revocations)
-    → Type 0
-AddsTexts today texts (Ok over) old new =
-    (entries : List Entry) × (texts_entries today texts ≡ Ok entries)
-    × (texts_over today texts ≡ Ok over) × HoldsMore old new entries
+-- the entries of all texts, and what stands then
+abbrev pub AddsTexts : (today : ℕ) → List Text → Result Standing MakeFault
+    → (old new : Revocations) → Type 0
+AddsTexts today texts (Ok standing) old new =
+    (entries : List Entry)
+    × (texts_on today texts ≡ Ok (record { entries = entries; standing = standing }))
+    × HoldsMore old new entries
 AddsTexts today texts (Err fault) old new =
     IsMakeFault (LacksMemoryAt today texts) fault.cause (texts_entries today texts) fault
+
+-- ---- the names of authorities
+
+-- The names that texts give to authorities on this day, by their keys.
+abbrev pub GivesNames : (today : ℕ) → List Text → NamedKeys → Type 0
+GivesNames today texts names =
+    (given : TextEntries) × (texts_on today texts ≡ Ok given)
+    × ((key : List ℕ) → key_named names key ≡ name_of given.standing.names key)
+
+-- The texts have this fault first, or an allocation failed.
+abbrev pub IsUnnamed : (today : ℕ) → List Text → MakeFault → Type 0
+IsUnnamed today texts fault =
+    (fault ≡ whole_fault (codes "memory") (Run causes.NoMemory))
+    ⊎ IsMakeFault (LacksMemoryAt today texts) fault.cause (texts_entries today texts) fault
 
 -- ---- the list
 

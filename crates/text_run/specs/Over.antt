@@ -24,7 +24,8 @@ use Rattle.text_run.specs.Base.{IsReadOver, IsUnread, is_read, takes_contents}
 use Rattle.text_run.specs.Content.{is_mute}
 use Rattle.text_run.specs.Fault.{MakeFault, whole_fault}
 use Rattle.text_run.specs.Making.{HoldsMore, IsMakeFault, IsWritten, LacksMemoryAt, Makes, Text}
-use Rattle.text_run.specs.Making.{Wanted, day_at, texts_entries, texts_over}
+use Rattle.text_entries.specs.AuthorityNames.{NamedKeys}
+use Rattle.text_run.specs.Making.{GivesNames, Wanted, day_at, texts_entries, texts_over}
 use Rattle.text_run.specs.declared.base.Base.{Base}
 use Rattle.text_run.specs.declared.inputs.Inputs.{Inputs}
 use Rattle.text_run.specs.declared.listed.Merged.{Merged}
@@ -67,6 +68,10 @@ entries_asked inputs = texts_entries (day_at inputs.date) inputs.texts.now
 abbrev pub over_asked : Inputs → Result ℕ MakeFault
 over_asked inputs = texts_over (day_at inputs.date) inputs.texts.now
 
+-- The names that the texts give to authorities, by their keys.
+abbrev pub HasNames : Inputs → NamedKeys → Type 0
+HasNames inputs names = GivesNames (day_at inputs.date) inputs.texts.now names
+
 -- The texts have this fault first, or an allocation failed at one of them.
 abbrev pub IsUnadded : Inputs → MakeFault → Type 0
 IsUnadded inputs fault =
@@ -93,12 +98,13 @@ pub data IsTooLittle (inputs : Inputs) (contents : Revocations) (fault : MakeFau
       → fault ≡ whole_fault inputs.name.now Empty → IsTooLittle inputs contents fault
 
 -- Why texts are refused: the first fault, or an allocation failed at a text; or one has no entry,
--- or none has one.
+-- or none has one; or an allocation failed for the names of authorities.
 pub data IsRefused (inputs : Inputs) (fault : MakeFault) : Type 0 where
   faulty : IsUnadded inputs fault → IsRefused inputs fault
   too_little : (entries : List Entry) → (contents : Revocations)
       → entries_asked inputs ≡ Ok entries → HoldsMore nothing contents entries
       → IsTooLittle inputs contents fault → IsRefused inputs fault
+  unnamed : fault ≡ whole_fault inputs.name.now (Run causes.NoMemory) → IsRefused inputs fault
 
 -- ---- the version
 

@@ -68,6 +68,9 @@ text_words texts.NoLastDay =
     codes "only a serial number, a key ID or a certificate has a last day"
 text_words texts.DateInComment =
     codes "a day in a comment ends nothing: begin the line with until YYYY-MM-DD"
+text_words texts.DateInId =
+    codes "a day in a key ID ends nothing: begin the line with until YYYY-MM-DD, or use id-hex: "
+    ++ codes "for a key ID that has one"
 
 abbrev pub make_words : MakeCause → List ℕ
 make_words (Run cause) = cause_words cause
@@ -129,6 +132,8 @@ hint_words cause all hints.ColonBehindName =
     codes "behind @NAME and a colon comes a key: an entry has no colon there"
 hint_words cause all hints.LastDay =
     codes "a last day comes first on a line: until YYYY-MM-DD"
+hint_words cause all hints.NoLastDay =
+    codes "a key has no last day: take the day out of its comment"
 
 -- why no list is made, or what the line may be meant as
 abbrev pub why_words : List Text → Option Hint → MakeCause → List ℕ

@@ -10,22 +10,22 @@ use serial_set::Spans;
 use std::alloc::Global;
 use text_entries::{Standing, read_text};
 
-/// Adds the entries of each text, up to the first fault, and returns how many lines had a last day
-/// that is over. The name that a text gives to an authority is known in those after it. Today is
-/// given by its number from 1970-01-01 on.
+/// Adds the entries of each text, up to the first fault, and returns what stands then. The name
+/// that a text gives to an authority is known in those after it. Today is given by its number from
+/// 1970-01-01 on.
 pub(crate) fn add_texts<'a, S: Spans>(
     alloc: Global,
     revocations: &mut Revocations<S>,
     today: u64,
     texts: &'a [Text<'a>],
-) -> Result<u64, MakeFault<'a>>
+) -> Result<Standing, MakeFault<'a>>
     ensures { AddsTexts today texts.now result revocations.old revocations.new }
 {
     let mut standing = Standing::new(alloc, today);
     for text in texts {
         add_text(alloc, revocations, &mut standing, text)?;
     }
-    Ok(standing.over())
+    Ok(standing)
 }
 
 // Adds the entries of a text behind others.

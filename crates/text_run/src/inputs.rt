@@ -8,6 +8,13 @@ use crate::text::Text;
 // The seconds of a day.
 const DAY: u64 = 86_400;
 
+/// The day of a date in seconds since 1970, by its number from 1970-01-01 on.
+pub(crate) fn day_of(date: u64) -> u64
+    ensures { result ≡ day_at date }
+{
+    date / DAY
+}
+
 /// How a list that is made follows the one under its name.
 #[derive(Clone, Copy, PartialEq, Eq)]
 pub enum Over {
@@ -43,6 +50,6 @@ impl<'a> Inputs<'a> {
     pub(crate) fn day(&self) -> u64
         ensures { result ≡ day_at self.now.date }
     {
-        self.date / DAY
+        day_of(self.date)
     }
 }

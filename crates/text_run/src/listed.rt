@@ -2,14 +2,16 @@
 
 ghost use Rattle.std.specs.Prelude.{◌≡◌, IfErr, IfOk, MatchOption, Ok, unwrap_or};
 ghost use Rattle.text_run.specs.Making.{IsWritten};
-ghost use Rattle.text_run.specs.Over.{IsEnough, IsHeld, IsMerged, IsRefused, IsTooLittle};
-ghost use Rattle.text_run.specs.Over.{IsUnadded, over_asked, version_over, wanted_over};
+ghost use Rattle.text_run.specs.Over.{HasNames, IsEnough, IsHeld, IsMerged, IsRefused};
+ghost use Rattle.text_run.specs.Over.{IsTooLittle, IsUnadded, over_asked, version_over};
+ghost use Rattle.text_run.specs.Over.{wanted_over};
 
 use crate::adding::add_texts;
 use crate::base::read_base;
 use crate::content::first_mute;
 use crate::inputs::{Inputs, Over};
 use crate::make_fault::{MakeCause, MakeFault};
+use crate::names::names_of;
 use byte_streams::Source;
 use krl_core::{Header, Revocations};
 use krl_writer::{TextFault, krl_text};
@@ -19,6 +21,7 @@ use run_faults::Cause;
 use span_sets::Held;
 use ssh_wire::Bytes;
 use std::alloc::Global;
+use text_entries::NamesByKey;
 
 // The version of a list that follows no other.
 const FIRST: u64 = 1;
@@ -34,6 +37,8 @@ pub struct Facts {
     pub lost: Revocations<Held>,
     /// How many lines of the texts had a last day that is over.
     pub over: u64,
+    /// The names that the texts give to authorities.
+    pub names: NamesByKey,
 }
 
 /// The outcome of making texts into a list: the version, and what is held of the old list and the
@@ -57,6 +62,8 @@ pub struct Listed<'a> {
     pub revocations: Revocations<Held>,
     /// How many lines of its texts had a last day that is over.
     pub over: u64,
+    /// The names that its texts give to authorities.
+    pub names: NamesByKey,
 }
 
 /// The revocations that texts name, or their first fault. A text without an entry is a fault too,
@@ -65,17 +72,22 @@ pub fn read_texts<'a>(alloc: Global, inputs: &'a Inputs<'a>) -> Result<Listed<'a
     ensures same { IfOk result (λ list. list.inputs.now ≡ inputs.now) }
     ensures read { IfOk result (λ list. IsHeld inputs.now list.revocations) }
     ensures over { IfOk result (λ list. over_asked inputs.now ≡ Ok list.over) }
+    ensures names { IfOk result (λ list. HasNames inputs.now list.names) }
     ensures refused { IfErr result (IsRefused inputs.now) }
 {
     let mut revocations: Revocations<Held> = Revocations::new(alloc);
-    let over = add_texts(alloc, &mut revocations, inputs.day(), inputs.texts)?;
-    match why_refused(inputs, &revocations) {
-        Some(fault) => Err(fault),
-        None => Ok(Listed {
+    let standing = add_texts(alloc, &mut revocations, inputs.day(), inputs.texts)?;
+    if let Some(fault) = why_refused(inputs, &revocations) {
+        return Err(fault);
+    }
+    match names_of(&standing, inputs.name) {
+        Ok(names) => Ok(Listed {
             inputs,
             revocations,
-            over,
+            over: standing.over(),
+            names,
         }),
+        Err(fault) => Err(fault),
     }
 }
 

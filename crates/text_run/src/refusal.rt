@@ -47,10 +47,15 @@ const NO_LAST_DAY: &[u8] = b"only a serial number, a key ID or a certificate has
 const DATE_IN_COMMENT: &[u8] = b"a day in a comment ends nothing: begin the line with until \
 YYYY-MM-DD";
 
+const DATE_IN_ID: &[u8] = b"a day in a key ID ends nothing: begin the line with until YYYY-MM-DD, \
+or use id-hex: for a key ID that has one";
+
 const COLON_BEHIND_NAME: &[u8] = b"behind @NAME and a colon comes a key: an entry has no colon \
 there";
 
 const LAST_DAY: &[u8] = b"a last day comes first on a line: until YYYY-MM-DD";
+
+const NO_LAST_DAY_IN_COMMENT: &[u8] = b"a key has no last day: take the day out of its comment";
 
 const EMPTY: &[u8] = b"the list would revoke nobody: no text has an entry, or each is over";
 
@@ -118,6 +123,7 @@ fn hint_words<'a>(
         Hint::Hexadecimal => Vec::from_slice(alloc, b"hexadecimal digits need 0x before them"),
         Hint::ColonBehindName => Vec::from_slice(alloc, COLON_BEHIND_NAME),
         Hint::LastDay => Vec::from_slice(alloc, LAST_DAY),
+        Hint::NoLastDay => Vec::from_slice(alloc, NO_LAST_DAY_IN_COMMENT),
         Hint::Name(line) => {
             if cause == MakeCause::Line(TextCause::OtherKey) {
                 other_words(alloc, line.name, texts)
@@ -211,6 +217,7 @@ fn text_words(cause: TextCause) -> &'static [u8]
         TextCause::BadDate => b"until needs a day, as YYYY-MM-DD",
         TextCause::NoLastDay => NO_LAST_DAY,
         TextCause::DateInComment => DATE_IN_COMMENT,
+        TextCause::DateInId => DATE_IN_ID,
     }
 }
 

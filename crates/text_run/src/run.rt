@@ -4,10 +4,10 @@ ghost use Rattle.std.specs.Prelude.{◌≡◌, IfErr, IfOk, Ok, false, option_ma
 ghost use Rattle.std.specs.Option.{ForSome};
 ghost use Rattle.list_making.specs.Making.{IsPut, IsUntouched};
 ghost use Rattle.text_run.specs.Base.{is_read};
-ghost use Rattle.text_run.specs.Over.{MakesOver, WhyUnmade, fault_of, over_asked};
+ghost use Rattle.text_run.specs.Over.{HasNames, MakesOver, WhyUnmade, fault_of, over_asked};
 
 use crate::inputs::Inputs;
-use crate::listed::{Facts, Merged, read_texts};
+use crate::listed::{Facts, Listed, Merged, read_texts};
 use crate::make_fault::MakeFault;
 use byte_streams::Source;
 use krl_core::Revocations;
@@ -25,32 +25,41 @@ pub fn list_over<'a, R: Source + Drop>(
     ensures made { IfOk result (λ made. MakesOver inputs.now (option_map R.left old)
         made.bytes.items made.facts.version made.facts.revocations made.facts.lost) }
     ensures over { IfOk result (λ made. over_asked inputs.now ≡ Ok made.facts.over) }
+    ensures names { IfOk result (λ made. HasNames inputs.now made.facts.names) }
 {
     let list = match read_texts(alloc, inputs) {
         Ok(list) => list,
         Err(fault) => return Err(fault),
     };
     match list.make(alloc, old) {
-        Ok(made) => Ok(with_texts(made, list.revocations, list.over)),
+        Ok(made) => Ok(with_texts(made, list)),
         Err(fault) => Err(fault),
     }
 }
 
-// The list with what it has of the old list, or of the texts alone, and how many of their lines are
-// over.
-fn with_texts(made: Made<Merged>, listed: Revocations<Held>, over: u64) -> Made<Facts>
+// The list with what it has of the old list, or of the texts alone, and the facts about the texts.
+fn with_texts(made: Made<Merged>, list: Listed<'_>) -> Made<Facts>
     ensures bytes { result.bytes ≡ made.bytes }
     ensures version { result.facts.version ≡ made.facts.version }
-    ensures revocations { result.facts.revocations ≡ unwrap_or made.facts.revocations listed }
+    ensures revocations { result.facts.revocations
+        ≡ unwrap_or made.facts.revocations list.entry.revocations }
     ensures lost { result.facts.lost ≡ made.facts.lost }
-    ensures over { result.facts.over ≡ over }
+    ensures over { result.facts.over ≡ list.entry.over }
+    ensures names { result.facts.names ≡ list.entry.names }
 {
     let Made { bytes, facts } = made;
+    let Listed {
+        revocations,
+        over,
+        names,
+        ..
+    } = list;
     let facts = Facts {
         version: facts.version,
-        revocations: facts.revocations.unwrap_or(listed),
+        revocations: facts.revocations.unwrap_or(revocations),
         lost: facts.lost,
         over,
+        names,
     };
     Made { bytes, facts }
 }
@@ -71,6 +80,7 @@ pub fn text_run<'a, P: Target>(
         (λ old. MakesOver inputs.now old made.bytes.items made.facts.version
         made.facts.revocations made.facts.lost) made.bytes.items place.new) }
     ensures over { IfOk result (λ made. over_asked inputs.now ≡ Ok made.facts.over) }
+    ensures names { IfOk result (λ made. HasNames inputs.now made.facts.names) }
     ensures unmade { IfErr result (WhyUnmade P.base inputs.now place.new) }
     ensures kept { IfErr result (IsUntouched P.holds P.overtaken (fault_of inputs.now) place.old
         place.new) }
@@ -80,7 +90,7 @@ pub fn text_run<'a, P: Target>(
         Err(fault) => return Err(fault),
     };
     match make_at(alloc, &list, place) {
-        Ok(made) => Ok(with_texts(made, list.revocations, list.over)),
+        Ok(made) => Ok(with_texts(made, list)),
         Err(fault) => Err(fault),
     }
 }

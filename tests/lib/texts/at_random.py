@@ -12,6 +12,8 @@ from wire import HIGHEST, bitmap, section, serials, span, string, strings
 WORDS = [b"bob", b"alice@example.org", b"a b  c", b"ca: all", b"serial: 5", b"0", b"\\x23", b"all"]
 WORDS += [b"ssh-rsa", b"ssh-rsa: a", b"ssh-ed25519-cert-v01@openssh.com"]
 WORDS += [b'"', b"'", b'"bob', b"bob'", b"'a' b", b"\"a'", b"CN=bob,OU=ops", b"a,", b",b", b"a ,b"]
+WORDS += [b"until", b"until tomorrow", b"bob until 2027-1-01", b"until the 2027-01-01", b"2027-01-01"]
+WORDS += [b"until 12027-01-01", b"until-2027-01-01", b"unti 2027-01-01", b"2027-01-01 until"]
 AWKWARD = [
     b"",
     b" ",
@@ -36,6 +38,12 @@ AWKWARD = [
     b"Doe, John",
     b'"a", "b"',
     b"'a', b",
+    b"bob until 2027-01-01",
+    b"until2027-02-30",
+    b"not-UNTIL : = 0000-00-00, or so",
+    b"untiluntil=9999-99-999",
+    b"\"bob until 2027-01-01\"",
+    b"bob until\t2027-01-01",
     "Zo\u00eb".encode(),
     "\u009f".encode(),
     b"Zo\xeb",

@@ -64,22 +64,24 @@ def moment(source):
     return day * 86_400 + source.choice([0, 0, 1, 43_200, 86_399, 86_399])
 
 
-# ---- days in comments
+# ---- days in comments and in key IDs
 
-COMMENTS = [" # until tomorrow", " # until 2027-02-29", "\t# until  2027-1-01"]
+COMMENTS = [" # until tomorrow", " # until 2027/02/28", "\t# until  2027-1-01"]
 COMMENTS += [" # until the 2027-01-01", " # unti 2027-01-01", " # until # 2027-01-01"]
 COMMENTS += [" # 2027-01-01 until"]
 WITH_DAY = [" # until 2027-01-01", "\t#until 1999-12-31", " # UNTIL: 9999-12-31"]
 WITH_DAY += [" # a # until=2027-01-01", " # until\t :=2028-02-29", " # untiluntil 0000-02-29"]
 WITH_DAY += [" # OPS-7 until2027-01-01, or so", " # until 2027-02-29 until 2027-03-01"]
 WITH_DAY += [" # not-until 2027-01-011"]
+# Dates that are not in the calendar.
+WITH_DAY += [" # until 2027-02-29", " # until 2026-02-30", "\t# Until:0000-00-00"]
+WITH_DAY += [" #until 9999-99-99"]
 
 
-def is_in_comment(line):
-    """Whether a word and a day are in the comment of a line."""
-    comment = line.partition("#")[2]
-    for word in re.finditer("until", comment, re.IGNORECASE):
-        behind = re.compile("[ \t:=]*(.{10})", re.DOTALL).match(comment, word.end())
-        if behind and in_calendar(behind[1]):
-            return True
-    return False
+def is_said(text):
+    """Whether a text has the word of a last day, and a date behind it. The calendar need not have
+    the date."""
+    said = "until[ \t:=]*" + DATE
+    if isinstance(text, bytes):
+        said = said.encode()
+    return bool(re.search(said, text, re.IGNORECASE | re.ASCII))

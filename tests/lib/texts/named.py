@@ -8,6 +8,7 @@ import re
 import struct
 import unicodedata
 
+from texts import days
 from texts.keys import FIELDS, is_key, parts_of
 
 MAGIC = b"SSHKRL\n\0"
@@ -248,8 +249,9 @@ def is_quoted(text):
 
 
 def looks_otherwise(text):
-    """Whether it would be taken for a key, for a key ID between quotes, or for several."""
-    return begins_as_key(text) or is_quoted(text) or b", " in text
+    """Whether it would be taken for a key, for a key ID between quotes, for several, or for one
+    with a last day."""
+    return begins_as_key(text) or is_quoted(text) or b", " in text or days.is_said(text)
 
 
 def of_id(text):
@@ -259,35 +261,43 @@ def of_id(text):
     return "id-hex: " + text.hex()
 
 
-def line_of(fact):
+def name_of(fact, names):
+    """The name of the authority of a fact, if it has one. Keys and hashes have no authority."""
+    return names.get(fact[1]) if fact[0] in ("ca", "serial", "id") else None
+
+
+def line_of(fact, names={}):
+    """The line of a fact, by the names of authorities, of which none has one mostly."""
     kind, value = fact[0], fact[-1]
+    name = name_of(fact, names)
     if kind == "ca":
-        return of_blob("ca", value) if value else "ca: all"
+        return of_blob("@" + name if name else "ca", value) if value else "ca: all"
+    mark = "@%s " % name if name else ""
     if kind == "serial":
-        return of_serials(value)
+        return mark + of_serials(value)
     if kind == "id":
-        return of_id(value)
+        return mark + of_id(value)
     if kind == "key":
         return of_blob("key", value)
     return "hash: %s:%s" % (kind, unpadded(value))
 
 
-def lines_of(named):
+def lines_of(named, names={}):
     """The lines that name it."""
-    return [line_of(fact) for fact in named.facts()]
+    return [line_of(fact, names) for fact in named.facts()]
 
 
 # ---- changes
 
 
-def marked(mark, named):
+def marked(mark, named, names={}):
     """The lines of what one of two lists names, each authority without the mark."""
-    return [("  " if fact[0] == "ca" else mark) + line_of(fact) for fact in named.facts()]
+    return [("  " if fact[0] == "ca" else mark) + line_of(fact, names) for fact in named.facts()]
 
 
-def changes(old, new):
+def changes(old, new, names={}):
     """The lines of what only the new one names, and then of what only the old one does."""
-    return marked("+ ", new.without(old)) + marked("- ", old.without(new))
+    return marked("+ ", new.without(old), names) + marked("- ", old.without(new), names)
 
 
 def lost(name, named, other_name, other):
@@ -339,7 +349,7 @@ def text_field(name, content):
         return {name + "_base64": coded(content)}
 
 
-def object_of(fact):
+def object_of(fact, names={}):
     """The object of a fact. An authority has none of its own."""
     kind, value = fact[0], fact[-1]
     if kind == "key":
@@ -347,22 +357,24 @@ def object_of(fact):
     if kind in ("SHA1", "SHA256"):
         return {"hash": "%s:%s" % (kind, unpadded(value))}
     authority = {"ca": fingerprint(fact[1]) if fact[1] else "all"}
+    if name_of(fact, names):
+        authority["name"] = name_of(fact, names)
     if kind == "serial":
         return {**authority, "serial": [str(it) for it in value]}
     return {**authority, **text_field("id", value)}
 
 
-def objects_of_facts(named):
-    return [object_of(it) for it in named.facts() if it[0] != "ca"]
+def objects_of_facts(named, names={}):
+    return [object_of(it, names) for it in named.facts() if it[0] != "ca"]
 
 
-def objects_of(name, header, named):
+def objects_of(name, header, named, names={}):
     first = {"list": name}
     if header is not None:
         version, seconds, comment = header
         first.update(version=str(version), generated=date(seconds))
         first.update(text_field("comment", comment))
-    return [first, *objects_of_facts(named)]
+    return [first, *objects_of_facts(named, names)]
 
 
 def object_of_counts(counts):
@@ -377,10 +389,12 @@ def last_object(lists):
     return {"status": "done", "lists": len(lists), **object_of_counts(totals)}
 
 
-def objects_of_changes(old, new):
+def objects_of_changes(old, new, names={}):
     """Those of the lines that say what changed, and the counts of each side."""
     sides = {"added": new.without(old), "removed": old.without(new)}
-    objects = [{"change": it, **each} for it in sides for each in objects_of_facts(sides[it])]
+    objects = [
+        {"change": it, **each} for it in sides for each in objects_of_facts(sides[it], names)
+    ]
     counts = {it: object_of_counts(sides[it].counts()) for it in sides}
     return [*objects, {"status": "done", **counts}]
 

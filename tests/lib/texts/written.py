@@ -40,6 +40,13 @@ class Reading:
                     self.refused = at, number, self.words(line, fault)
                     return
 
+    def named_by_key(self):
+        """The name of each authority that has one: of several the first one by its bytes."""
+        found = {}
+        for name in sorted(self.names, key=str.encode):
+            found.setdefault(self.names[name][0], name)
+        return found
+
     def words(self, line, fault):
         line = undated(line)
         if fault == faults.OTHER_KEY:

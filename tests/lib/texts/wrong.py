@@ -4,8 +4,8 @@ import re
 
 from files import AUTHORITY, CERT, OTHER, SEVENTH, certificate
 from texts import days
-from texts.faults import BAD_DATE, BAD_NAME, DATE_IN_COMMENT, MARKED_WORD, NO_KEY, NO_LAST_DAY
-from texts.faults import NUMBER, SPEC, UNKNOWN_WORD
+from texts.faults import BAD_DATE, BAD_NAME, DATE_IN_COMMENT, DATE_IN_ID, HEX, MARKED_WORD, NO_KEY
+from texts.faults import NO_LAST_DAY, NUMBER, SPEC, UNKNOWN_WORD
 from texts.keys import FIELDS
 from texts.named import CERTIFICATES, coded, of_blob
 from texts.written import Dated, Marked, Naming, OfAuthority, Under, Wrong, naming, right_text
@@ -45,11 +45,23 @@ WHERE_CURRENT = {
         "serial: 1f3",
         "serial: 0a",
         "serial: 1-1f",
+        "serial: 5 until 2027-12-01",
+        "serial: 5-7 UNTIL=2026-02-30",
+        "serial: until:2027-12-01",
+        "serial: 1f3 until 2027-12-01",
+        "serial: 5 until tomorrow",
+        "serial: 5 until 2027/01/01",
     ],
     SPEC + "2 Zero": ["serial: 0", "serial: 0-5", "serial: 0x0", "serial: 0x00"],
     SPEC + "3 Reversed": ["serial: 9-7", "serial: 0x10-15"],
     SPEC + "5 EmptyId": ["id:", "id: # bob"],
-    "text 5 Hex": ["id-hex: 656", "id-hex: 0x65"],
+    HEX: [
+        "id-hex: 656",
+        "id-hex: 0x65",
+        "id-hex: 6162 until 2027-01-01",
+        "id-hex: until=0000-00-00",
+        "id-hex: 6162 until then",
+    ],
     "text 9 ZeroInId": ["id-hex: 00", "id-hex: 6100", "id-hex: 610062"],
 }
 # And those that have their fault anywhere.
@@ -109,6 +121,8 @@ ANYWHERE = {
         "serial: 01-5",
         "serial: 1-05",
         "serial: 1 - 05",
+        "serial: 5 until 2026-01-15",
+        "serial: 05 until 2026-11-15",
         "serial: 1-\t00",
         "serial: 0x1-0777",
         "serial: 00x10",
@@ -125,6 +139,14 @@ ANYWHERE = {
         "id:'bob' # bob",
     ],
     "text 13 SeveralIds": ["id: a, b", "id: , b", "id: alice,  bob", "id: \"a\", 'b'", "ID:Doe, J"],
+    DATE_IN_ID: [
+        "id: bob until 2027-01-01",
+        "id: until 2027-01-01",
+        "ID:until:2027-01-01 # bob",
+        "id: bob UNTIL : = 2026-02-30 or so",
+        "id: untiluntil2027-01-011",
+        "id: until 0000-00-00",
+    ],
 }
 
 # ---- names
@@ -140,6 +162,7 @@ BEHIND_A_NAME = {
         "~/ca",
         "./ca pub",
         "SHA256:" + "A" * 43,
+        "sha256: " + OF_AUTHORITY,
         "@wrong-ca",
         ": " + OF_AUTHORITY,
         "ca: " + OF_AUTHORITY,
@@ -194,6 +217,13 @@ BEHIND_A_MARK = [
     " id_hex: 61",
     " id-hex 61",
     " user: 5",
+    " keys: x",
+    " kye: " + OF_AUTHORITY,
+    " key " + OF_AUTHORITY,
+    " ca all",
+    " CAS: all",
+    " hahs: SHA1:" + "A" * 27,
+    " sha-1: x",
     " 5",
     " @wrong-ca serial: 5",
     " wrong-ca: " + OF_AUTHORITY,

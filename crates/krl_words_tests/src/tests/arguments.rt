@@ -167,6 +167,11 @@ fn shows(rt: HostRuntime) -> Result<(), Fail> {
     assert!(rt; show.json && show.lists.as_slice() == ["a", "b"].as_slice() && !show.no_name);
     let show = show_by(rt.alloc(), &["krl", "show", "--no-name", "--", "-a"])?;
     assert!(rt; !show.json && show.lists.as_slice() == ["-a"].as_slice() && show.no_name);
+    assert!(rt; show.names.is_empty());
+    let words = ["krl", "show", "--names", "-", "a", "--names=b"];
+    let show = show_by(rt.alloc(), &words)?;
+    assert!(rt; show.names.as_slice() == ["-", "b"].as_slice());
+    assert!(rt; show.lists.as_slice() == ["a"].as_slice());
     Ok(())
 }
 
@@ -248,14 +253,18 @@ fn comparisons(rt: HostRuntime) -> Result<(), Fail> {
     let diff = diff_by(rt.alloc(), &["krl", "diff", "a", "--json", "b"])?;
     assert!(rt; diff.old == "a" && diff.new == "b" && diff.json);
     let diff = diff_by(rt.alloc(), &["krl", "diff", "--", "-a", "b"])?;
-    assert!(rt; diff.old == "-a" && diff.new == "b" && !diff.json);
+    assert!(rt; diff.old == "-a" && diff.new == "b" && !diff.json && diff.names.is_empty());
+    let words = ["krl", "diff", "--names", "t", "a", "--names", "u", "-"];
+    let diff = diff_by(rt.alloc(), &words)?;
+    assert!(rt; diff.old == "a" && diff.new == "-");
+    assert!(rt; diff.names.as_slice() == ["t", "u"].as_slice());
     let check = check_by(rt.alloc(), &["krl", "check", "k", "--superset-of", "s"])?;
     assert!(rt; check.superset_of == Some("s") && check.newer_than.is_none());
     Ok(())
 }
 
 // Words that are refused.
-const REFUSED: [&[&str]; 58] = [
+const REFUSED: [&[&str]; 63] = [
     &["krl", "audit", "-f-", "-"],
     &["krl", "audit", "-f-", "a", "-", "-"],
     &["krl", "audit", "-f-", "--files0-from", "-"],
@@ -274,6 +283,11 @@ const REFUSED: [&[&str]; 58] = [
     &["krl", "show", "-", "a", "-"],
     &["krl", "show", "--no-name", "--no-name", "a"],
     &["krl", "diff", "-", "-"],
+    &["krl", "show", "--names", "-", "-"],
+    &["krl", "show", "--names", "-", "--names", "-", "a"],
+    &["krl", "show", "a", "--names"],
+    &["krl", "diff", "--names", "-", "-", "a"],
+    &["krl", "check", "k", "--names", "a"],
     &["krl", "make", "-f", "k", "-", "-"],
     &["krl", "make", "-f-", "a"],
     &["krl", "make", "-f", "k", "-u", "--replace", "a"],

@@ -57,6 +57,7 @@ fn compared<W: Sink>(alloc: Global, json: bool, out: &mut W) -> Option<RunFault<
         old: "plain",
         new: "five",
         json,
+        names: None,
     };
     diff_run(alloc, &mut Pair, comparison, out).fault
 }

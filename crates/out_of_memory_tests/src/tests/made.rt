@@ -6,7 +6,7 @@ use krl_core::Revocations;
 use krl_spec::SpecCause;
 use span_sets::Held;
 use std::alloc::AllocError;
-use test_fixtures::{GITHUB_LINE, GITHUB_PRINT, OTHER_LINE, joined};
+use test_fixtures::{GITHUB, GITHUB_LINE, GITHUB_PRINT, OTHER_LINE, joined};
 use text_entries::{Standing, TextCause, read_text};
 
 // Ten lines, of which each but the first three names one more entry.
@@ -36,7 +36,12 @@ fn a_text(rt: HostRuntime) {
     let mut held: Revocations<Held> = Revocations::new(rt.alloc());
     let mut standing = Standing::new(rt.alloc(), 0);
     match read_text(rt.alloc(), &mut held, &mut standing, &text) {
-        Ok(_) => assert!(rt; size(&held) == 8),
+        Ok(_) => {
+            assert!(rt; size(&held) == 8);
+            if let Some(names) = answered(&rt, standing.names().by_key(), AllocError) {
+                assert!(rt; names.name(GITHUB).is_none() && names.name(b"").is_none());
+            }
+        }
         Err(fault) => {
             assert!(rt; fault.cause == TextCause::Spec(SpecCause::NoMemory));
             // Those of the lines before are held: the first three have no entry.

@@ -59,7 +59,7 @@ impl Lists for Shelf {
 }
 
 // Shows the list in a form.
-fn shown<W: Sink>(alloc: Global, form: Form, out: &mut W) -> Option<RunFault<'static>>
+fn shown<W: Sink>(alloc: Global, form: Form<'_>, out: &mut W) -> Option<RunFault<'static>>
     requires { W.has_failed out.old ≡ false }
 {
     show_run(alloc, &mut Shelf, &["r.krl"], form, out).fault
@@ -67,7 +67,7 @@ fn shown<W: Sink>(alloc: Global, form: Form, out: &mut W) -> Option<RunFault<'st
 
 #[test]
 fn each_line_is_shown(rt: HostRuntime) {
-    for (form, text) in [(Form::Text, TEXT), (Form::Json, OBJECTS)] {
+    for (form, text) in [(Form::Text(None), TEXT), (Form::Json(None), OBJECTS)] {
         let mut said = Buffer::new();
         match shown(rt.alloc(), form, &mut ToWrite::new(&mut said)) {
             None => assert!(rt; said.text() == text),

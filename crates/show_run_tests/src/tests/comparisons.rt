@@ -70,6 +70,7 @@ fn each_comparison(rt: HostRuntime) {
             old,
             new,
             json: false,
+            names: None,
         };
         let mut taker = Taker::whole(rt.alloc());
         let done = diff_run(
@@ -102,6 +103,7 @@ fn comparisons_as_json(rt: HostRuntime) {
             old,
             new,
             json: true,
+            names: None,
         };
         let mut taker = Taker::whole(rt.alloc());
         let done = diff_run(
@@ -140,7 +142,12 @@ fn lists_that_are_not_read(rt: HostRuntime) {
     ];
     for (i, (old, new, name, cause)) in rows.iter().enumerate() {
         for json in [false, true] {
-            let comparison = Comparison { old, new, json };
+            let comparison = Comparison {
+                old,
+                new,
+                json,
+                names: None,
+            };
             let mut taker = Taker::whole(rt.alloc());
             let done = diff_run(
                 rt.alloc(),
@@ -164,6 +171,7 @@ fn an_output_that_fails_ends_a_comparison(rt: HostRuntime) {
         old: "five",
         new: "own",
         json: false,
+        names: None,
     };
     let mut broken = Taker::new(rt.alloc(), 9, 0);
     let done = diff_run(

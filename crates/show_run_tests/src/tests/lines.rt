@@ -1,12 +1,14 @@
 //! The lines of single facts.
 
-use krl_entries::Fact as Held;
+use krl_entries::{Fact as HeldFact, Revocations};
 use krl_types::ItemKind;
 use list_text::{Counts, Fact, Form, Side};
 use serial_set::Span;
+use span_sets::Held;
 use std::alloc::Global;
 use std::process::Abort;
 use test_fixtures::{GITHUB, GITHUB_LINE, GITHUB_PRINT, joined};
+use text_entries::{NamesByKey, Standing, read_text};
 
 // Key IDs, and their lines.
 const IDS: [(&[u8], &[u8]); 17] = [
@@ -65,11 +67,11 @@ const LIKE_OTHERS: [(&[u8], &[u8]); 22] = [
 fn all_spell(rt: &impl Abort, alloc: Global, rows: &[(&[u8], &[u8])]) {
     let mut line = Vec::new(alloc);
     for (i, (id, text)) in rows.iter().enumerate() {
-        let fact = Fact::Held(Held::Item(ItemKind::Id, b"", id));
-        let made = Form::Text.write_fact(alloc, fact, &mut line);
+        let fact = Fact::Held(HeldFact::Item(ItemKind::Id, b"", id));
+        let made = Form::Text(None).write_fact(alloc, fact, &mut line);
         assert!(rt; made.is_ok() && line.as_slice() == *text, "in row {i}");
         let change = joined(alloc, &[b"+ ", text]).expect(rt, "there is memory");
-        let made = Form::Change(Side::Added).write_fact(alloc, fact, &mut line);
+        let made = Form::Change(Side::Added, None).write_fact(alloc, fact, &mut line);
         assert!(rt; made.is_ok() && line == change, "in row {i} as a change");
     }
 }
@@ -86,25 +88,29 @@ fn key_ids_like_others(rt: HostRuntime) {
 
 // Facts, and their lines as text and as JSON.
 const FACTS: [(Fact<'static>, &[u8], &[u8]); 9] = [
-    (Fact::Held(Held::Authority(b"")), b"ca: all\n", b""),
-    (Fact::Held(Held::Authority(b"ssh")), b"ca-blob: c3No\n", b""),
+    (Fact::Held(HeldFact::Authority(b"")), b"ca: all\n", b""),
     (
-        Fact::Held(Held::Item(ItemKind::Key, b"", b"\0")),
+        Fact::Held(HeldFact::Authority(b"ssh")),
+        b"ca-blob: c3No\n",
+        b"",
+    ),
+    (
+        Fact::Held(HeldFact::Item(ItemKind::Key, b"", b"\0")),
         b"key-blob: AA==\n",
         b"{\"key\":\"SHA256:bjQLnP+zepicpUTmu3gKLHiQHT+zNzh2hRGjBhevoB0\"}\n",
     ),
     (
-        Fact::Held(Held::Serials(b"", Span { lo: 9, hi: 9 })),
+        Fact::Held(HeldFact::Serials(b"", Span { lo: 9, hi: 9 })),
         b"serial: 9\n",
         b"{\"ca\":\"all\",\"serial\":[\"9\",\"9\"]}\n",
     ),
     (
-        Fact::Held(Held::Serials(b"", Span { lo: 100, hi: 199 })),
+        Fact::Held(HeldFact::Serials(b"", Span { lo: 100, hi: 199 })),
         b"serial: 100-199\n",
         b"{\"ca\":\"all\",\"serial\":[\"100\",\"199\"]}\n",
     ),
     (
-        Fact::Held(Held::Serials(
+        Fact::Held(HeldFact::Serials(
             b"",
             Span {
                 lo: 1,
@@ -115,17 +121,17 @@ const FACTS: [(Fact<'static>, &[u8], &[u8]); 9] = [
         b"{\"ca\":\"all\",\"serial\":[\"1\",\"18446744073709551615\"]}\n",
     ),
     (
-        Fact::Held(Held::Item(ItemKind::Id, b"", b"b\"b")),
+        Fact::Held(HeldFact::Item(ItemKind::Id, b"", b"b\"b")),
         b"id: b\"b\n",
         b"{\"ca\":\"all\",\"id\":\"b\\\"b\"}\n",
     ),
     (
-        Fact::Held(Held::Item(ItemKind::Sha1, b"", &[0; 20])),
+        Fact::Held(HeldFact::Item(ItemKind::Sha1, b"", &[0; 20])),
         b"hash: SHA1:AAAAAAAAAAAAAAAAAAAAAAAAAAA\n",
         b"{\"hash\":\"SHA1:AAAAAAAAAAAAAAAAAAAAAAAAAAA\"}\n",
     ),
     (
-        Fact::Held(Held::Item(ItemKind::Sha256, b"", &[0; 32])),
+        Fact::Held(HeldFact::Item(ItemKind::Sha256, b"", &[0; 32])),
         b"hash: SHA256:AAAAAAAAAAAAAAAAAAAAAAAAAAAAAAAAAAAAAAAAAAA\n",
         b"{\"hash\":\"SHA256:AAAAAAAAAAAAAAAAAAAAAAAAAAAAAAAAAAAAAAAAAAA\"}\n",
     ),
@@ -135,9 +141,9 @@ const FACTS: [(Fact<'static>, &[u8], &[u8]); 9] = [
 fn facts(rt: HostRuntime) {
     let mut line = Vec::new(rt.alloc());
     for (i, (fact, text, object)) in FACTS.iter().enumerate() {
-        let made = Form::Text.write_fact(rt.alloc(), *fact, &mut line);
+        let made = Form::Text(None).write_fact(rt.alloc(), *fact, &mut line);
         assert!(rt; made.is_ok() && line.as_slice() == *text, "in row {i}");
-        let made = Form::Json.write_fact(rt.alloc(), *fact, &mut line);
+        let made = Form::Json(None).write_fact(rt.alloc(), *fact, &mut line);
         assert!(rt;
             made.is_ok() && line.as_slice() == *object,
             "in row {i} as JSON"
@@ -145,19 +151,119 @@ fn facts(rt: HostRuntime) {
     }
 }
 
+// The names that a text gives, by their keys.
+fn names_in(rt: &impl Abort, alloc: Global, text: &[u8]) -> NamesByKey {
+    let mut held: Revocations<Held> = Revocations::new(alloc);
+    let mut standing = Standing::new(alloc, 0);
+    assert!(rt; read_text(alloc, &mut held, &mut standing, text).is_ok());
+    standing.names().by_key().expect(rt, "there is memory")
+}
+
+// Facts of an authority that has two names, and of all, and their lines as text and as JSON.
+const NAMED: [(Fact<'static>, &[&[u8]], &[&[u8]]); 7] = [
+    (
+        Fact::Held(HeldFact::Authority(GITHUB)),
+        &[b"@first: ", GITHUB_LINE, b" # ", GITHUB_PRINT, b"\n"],
+        &[],
+    ),
+    (
+        Fact::Held(HeldFact::Serials(GITHUB, Span { lo: 5, hi: 9 })),
+        &[b"@first serial: 5-9\n"],
+        &[
+            b"{\"ca\":\"",
+            GITHUB_PRINT,
+            b"\",\"name\":\"first\",\"serial\":[\"5\",\"9\"]}\n",
+        ],
+    ),
+    (
+        Fact::Held(HeldFact::Item(ItemKind::Id, GITHUB, b"bob")),
+        &[b"@first id: bob\n"],
+        &[
+            b"{\"ca\":\"",
+            GITHUB_PRINT,
+            b"\",\"name\":\"first\",\"id\":\"bob\"}\n",
+        ],
+    ),
+    (
+        Fact::Held(HeldFact::Item(ItemKind::Id, GITHUB, b"a, b")),
+        &[b"@first id-hex: 612c2062\n"],
+        &[
+            b"{\"ca\":\"",
+            GITHUB_PRINT,
+            b"\",\"name\":\"first\",\"id\":\"a, b\"}\n",
+        ],
+    ),
+    (
+        Fact::Held(HeldFact::Item(ItemKind::Key, b"", GITHUB)),
+        &[b"key: ", GITHUB_LINE, b" # ", GITHUB_PRINT, b"\n"],
+        &[b"{\"key\":\"", GITHUB_PRINT, b"\"}\n"],
+    ),
+    (Fact::Held(HeldFact::Authority(b"")), &[b"ca: all\n"], &[]),
+    (
+        Fact::Held(HeldFact::Serials(b"", Span { lo: 7, hi: 7 })),
+        &[b"serial: 7\n"],
+        &[b"{\"ca\":\"all\",\"serial\":[\"7\",\"7\"]}\n"],
+    ),
+];
+
+#[test]
+fn named_authorities(rt: HostRuntime) {
+    let alloc = rt.alloc();
+    let parts: [&[u8]; 5] = [
+        b"@second: ",
+        GITHUB_LINE,
+        b"\n@first: ",
+        GITHUB_LINE,
+        b"\n@other: ssh-ed25519 AAAAC3NzaC1lZDI1NTE5AAAAIBERERERERERERERERERERERERERERERERERERERERER",
+    ];
+    let text = joined(alloc, &parts).expect(&rt, "there is memory");
+    let names = names_in(&rt, alloc, &text);
+    let mut line = Vec::new(alloc);
+    for (i, (fact, text, object)) in NAMED.iter().enumerate() {
+        let made = Form::Text(Some(&names)).write_fact(alloc, *fact, &mut line);
+        let wanted = joined(alloc, *text).expect(&rt, "there is memory");
+        assert!(rt; made.is_ok() && line == wanted, "in row {i}");
+        let made = Form::Unnamed(Some(&names)).write_fact(alloc, *fact, &mut line);
+        assert!(rt;
+            made.is_ok() && line == wanted,
+            "in row {i} without the list's name"
+        );
+        let made = Form::Json(Some(&names)).write_fact(alloc, *fact, &mut line);
+        let wanted = joined(alloc, *object).expect(&rt, "there is memory");
+        assert!(rt; made.is_ok() && line == wanted, "in row {i} as JSON");
+    }
+}
+
+// The mark of a side is before the name.
+#[test]
+fn named_changes(rt: HostRuntime) {
+    let alloc = rt.alloc();
+    let text = joined(alloc, &[b"@o: ", GITHUB_LINE]).expect(&rt, "there is memory");
+    let names = names_in(&rt, alloc, &text);
+    let mut line = Vec::new(alloc);
+    let form = Form::Change(Side::Removed, Some(&names));
+    let serial = Fact::Held(HeldFact::Serials(GITHUB, Span { lo: 1, hi: 1 }));
+    let wanted: &[u8] = b"- @o serial: 1\n";
+    assert!(rt; form.write_fact(alloc, serial, &mut line).is_ok() && line.as_slice() == wanted);
+    let authority = Fact::Held(HeldFact::Authority(GITHUB));
+    let parts: [&[u8]; 5] = [b"  @o: ", GITHUB_LINE, b" # ", GITHUB_PRINT, b"\n"];
+    let wanted = joined(alloc, &parts).expect(&rt, "there is memory");
+    assert!(rt; form.write_fact(alloc, authority, &mut line).is_ok() && line == wanted);
+}
+
 // The published key, and its line as an authority.
 #[test]
 fn a_key_with_its_fingerprint(rt: HostRuntime) {
     let mut line = Vec::new(rt.alloc());
-    let authority = Fact::Held(Held::Authority(GITHUB));
-    let made = Form::Text.write_fact(rt.alloc(), authority, &mut line);
+    let authority = Fact::Held(HeldFact::Authority(GITHUB));
+    let made = Form::Text(None).write_fact(rt.alloc(), authority, &mut line);
     let wanted = joined(
         rt.alloc(),
         &[b"ca: ", GITHUB_LINE, b" # ", GITHUB_PRINT, b"\n"],
     );
     assert!(rt; made.is_ok() && line == wanted.expect(&rt, "there is memory"));
-    let id = Fact::Held(Held::Item(ItemKind::Id, GITHUB, b"\xff"));
-    let made = Form::Json.write_fact(rt.alloc(), id, &mut line);
+    let id = Fact::Held(HeldFact::Item(ItemKind::Id, GITHUB, b"\xff"));
+    let made = Form::Json(None).write_fact(rt.alloc(), id, &mut line);
     let parts: &[&[u8]] = &[b"{\"ca\":\"", GITHUB_PRINT, b"\",\"id_base64\":\"/w==\"}\n"];
     let wanted = joined(rt.alloc(), parts);
     assert!(rt; made.is_ok() && line == wanted.expect(&rt, "there is memory"));
@@ -171,11 +277,11 @@ fn exact_counts(rt: HostRuntime) {
         hi: 18_446_744_073_709_551_615,
     };
     let mut counts = Counts::NONE;
-    counts.add(Fact::Held(Held::Serials(b"a", all)));
-    counts.add(Fact::Held(Held::Serials(b"b", all)));
+    counts.add(Fact::Held(HeldFact::Serials(b"a", all)));
+    counts.add(Fact::Held(HeldFact::Serials(b"b", all)));
     assert!(rt; counts.serials == 36_893_488_147_419_103_230 && counts.entries == 2);
     let mut line = Vec::new(rt.alloc());
-    let made = Form::Json.write_last(counts, &mut line);
+    let made = Form::Json(None).write_last(counts, &mut line);
     let wanted: &[u8] = b"{\"status\":\"done\",\"lists\":0,\"cas\":0,\
 \"serials\":\"36893488147419103230\",\"ids\":0,\"keys\":0,\"hashes\":0}\n";
     assert!(rt; made.is_ok() && line.as_slice() == wanted);

@@ -3,7 +3,7 @@
 ghost use Rattle.std.specs.Prelude.{◌≡◌, [], IfOk, false};
 ghost use Rattle.krl_entries.specs.Facts.{ItemFact};
 ghost use Rattle.list_text.specs.Facts.{HeldFact};
-ghost use Rattle.list_text.specs.Text.{fact_line};
+ghost use Rattle.list_text.specs.Text.{fact_line, no_names};
 
 use crate::tests::runs::Shelf;
 use any_list::Lists;
@@ -20,11 +20,11 @@ use test_fixtures::Taker;
 /// The line of a key ID in the text of a list.
 fn id_line(alloc: Global, id: &[u8]) -> Result<Vec<u8>, AllocError>
     ensures { IfOk result (λ line. line.items
-        ≡ fact_line (HeldFact (ItemFact ItemKind.Id [] id.now))) }
+        ≡ fact_line no_names (HeldFact (ItemFact ItemKind.Id [] id.now))) }
 {
     let mut line = Vec::new(alloc);
     let fact = Fact::Held(Held::Item(ItemKind::Id, &[], id));
-    Form::Text.write_fact(alloc, fact, &mut line)?;
+    Form::Text(None).write_fact(alloc, fact, &mut line)?;
     Ok(line)
 }
 
@@ -32,7 +32,7 @@ fn id_line(alloc: Global, id: &[u8]) -> Result<Vec<u8>, AllocError>
 fn are_shown<L: Lists, W: Sink>(alloc: Global, lists: &mut L, names: &[&str], out: &mut W) -> bool
     requires { W.has_failed out.old ≡ false }
 {
-    show_run(alloc, lists, names, Form::Text, out).status == 0
+    show_run(alloc, lists, names, Form::Text(None), out).status == 0
 }
 
 /// Whether the list of one name names exactly what the list of another name does.
@@ -72,6 +72,7 @@ fn the_callers_of_the_pages(rt: HostRuntime) {
         old: "hundreds",
         new: "pieces",
         json: false,
+        names: None,
     };
     assert!(rt;
         are_same(

@@ -86,6 +86,7 @@ fn each_pipe_is_read_once(rt: HostRuntime) {
         old: "old",
         new: "new",
         json: false,
+        names: None,
     };
     let done = diff_run(
         rt.alloc(),
@@ -98,7 +99,7 @@ fn each_pipe_is_read_once(rt: HostRuntime) {
         rt.alloc(),
         &mut pipes,
         &["b", "a"],
-        Form::Json,
+        Form::Json(None),
         &mut ToWrite::new(&mut taker),
     );
     assert!(rt; shown.status == 0 && are_read(&pipes, &["old", "new", "b", "a"]));

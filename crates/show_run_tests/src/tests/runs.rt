@@ -70,7 +70,7 @@ const SHA1_SECTION: &[u8] = b"\x03\0\0\0\x18\0\0\0\x14\0\0\0\0\0\0\0\0\0\0\0\0\0
 // The form of some lists, the text that is printed, the status, and the name and the cause of the
 // fault.
 type Row = (
-    Form,
+    Form<'static>,
     &'static [&'static str],
     &'static [u8],
     u8,
@@ -79,7 +79,7 @@ type Row = (
 
 const ROWS: [Row; 11] = [
     (
-        Form::Text,
+        Form::Text(None),
         &["five"],
         b"# five: version 1, 1970-01-01T00:00:00Z\nca: all\nserial: 5\n",
         0,
@@ -87,7 +87,7 @@ const ROWS: [Row; 11] = [
     ),
     // Several lists, one after the other.
     (
-        Form::Text,
+        Form::Text(None),
         &["odd", "id"],
         b"# odd: version 1, 1970-01-01T00:00:00Z
 ca: all\nserial: 1\nserial: 3\nserial: 5\nserial: 7
@@ -96,7 +96,7 @@ ca: all\nserial: 1\nserial: 3\nserial: 5\nserial: 7
         None,
     ),
     (
-        Form::Text,
+        Form::Text(None),
         &["key", "plain"],
         b"# key: version 1, 1970-01-01T00:00:00Z
 key: ssh-ed25519 AAAAC3NzaC1lZDI1NTE5AAAAIOMqqnkVzrm0SdG6UOoqKLsabgH5C9okWi0dh2l9GKJl \
@@ -108,7 +108,7 @@ key: ssh-ed25519 AAAAC3NzaC1lZDI1NTE5AAAAIOMqqnkVzrm0SdG6UOoqKLsabgH5C9okWi0dh2l
         None,
     ),
     (
-        Form::Text,
+        Form::Text(None),
         &["said", "hash"],
         b"# said: version 7, 1970-01-01T00:00:00Z, a\\x0ab
 # hash: version 1, 1970-01-01T00:00:00Z
@@ -117,7 +117,7 @@ hash: SHA256:+DiY3wvvV6TuJJhbpZisF/zLDA0zPMSvHdkr4UvCOqU\n",
         None,
     ),
     (
-        Form::Json,
+        Form::Json(None),
         &["said", "odd", "plain"],
         b"{\"list\":\"said\",\"version\":\"7\",\"generated\":\"1970-01-01T00:00:00Z\",\
 \"comment\":\"a\\nb\"}
@@ -134,7 +134,7 @@ hash: SHA256:+DiY3wvvV6TuJJhbpZisF/zLDA0zPMSvHdkr4UvCOqU\n",
     ),
     // Lists without their names.
     (
-        Form::Unnamed,
+        Form::Unnamed(None),
         &["said", "plain"],
         b"# version 7, 1970-01-01T00:00:00Z, a\\x0ab
 key: ssh-ed25519 AAAAC3NzaC1lZDI1NTE5AAAAIOMqqnkVzrm0SdG6UOoqKLsabgH5C9okWi0dh2l9GKJl \
@@ -143,7 +143,7 @@ key: ssh-ed25519 AAAAC3NzaC1lZDI1NTE5AAAAIOMqqnkVzrm0SdG6UOoqKLsabgH5C9okWi0dh2l
         None,
     ),
     (
-        Form::JsonUnnamed,
+        Form::JsonUnnamed(None),
         &["said", "plain"],
         b"{\"version\":\"7\",\"generated\":\"1970-01-01T00:00:00Z\",\"comment\":\"a\\nb\"}
 {\"key\":\"SHA256:+DiY3wvvV6TuJJhbpZisF/zLDA0zPMSvHdkr4UvCOqU\"}
@@ -151,24 +151,24 @@ key: ssh-ed25519 AAAAC3NzaC1lZDI1NTE5AAAAIOMqqnkVzrm0SdG6UOoqKLsabgH5C9okWi0dh2l
         0,
         None,
     ),
-    (Form::Text, &[], b"", 0, None),
+    (Form::Text(None), &[], b"", 0, None),
     // Nothing is printed where one of them is not read.
     (
-        Form::Text,
+        Form::Text(None),
         &["five", "gone", "short"],
         b"",
         255,
         Some(("gone", Cause::File(FileFault::Open))),
     ),
     (
-        Form::Json,
+        Form::Json(None),
         &["five", "short"],
         b"",
         255,
         Some(("short", Cause::Krl(KrlFault::EndsEarly))),
     ),
     (
-        Form::Text,
+        Form::Text(None),
         &["short", "gone"],
         b"",
         255,
@@ -197,6 +197,12 @@ fn each_row(rt: HostRuntime) {
 fn an_output_that_fails_ends_a_run(rt: HostRuntime) {
     let mut broken = Taker::new(rt.alloc(), 9, 0);
     let mut lost = ToWrite::new(&mut broken);
-    let done = show_run(rt.alloc(), &mut Shelf, &["five"], Form::Text, &mut lost);
+    let done = show_run(
+        rt.alloc(),
+        &mut Shelf,
+        &["five"],
+        Form::Text(None),
+        &mut lost,
+    );
     assert!(rt; done.status == 255);
 }

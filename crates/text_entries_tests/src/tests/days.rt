@@ -6,7 +6,7 @@ use krl_core::Revocations;
 use std::alloc::Global;
 use std::process::Abort;
 use test_fixtures::{CERT_LINE, GITHUB_LINE, GITHUB_PRINT, OTHER_LINE, joined};
-use text_entries::day_in;
+use text_entries::{NamesByKey, day_in};
 use text_run::{Facts, Inputs, made_line, read_texts};
 
 const BAD_DATE: &str = "text 18 BadDate";
@@ -79,10 +79,7 @@ const SAME: [(&[&[u8]], &[&[u8]]); 13] = [
         &[b"ca: all\nid: a # until further notice, 2026-11-14"],
         &[b"ca: all\nid: a"],
     ),
-    (
-        &[b"ca: all\nid: a # until 2026-02-29"],
-        &[b"ca: all\nid: a"],
-    ),
+    (&[b"ca: all\nid: a # until 2026-2-28"], &[b"ca: all\nid: a"]),
 ];
 
 #[test]
@@ -98,7 +95,7 @@ fn up_to_a_day(rt: HostRuntime) {
 }
 
 // The parts of texts, the line of the first fault, and its name.
-const FAULTY: [(&[&[u8]], u64, &str); 31] = [
+const FAULTY: [(&[&[u8]], u64, &str); 33] = [
     (&[b"until 2026-02-29 @all serial: 5"], 1, BAD_DATE),
     (&[b"until tomorrow @all serial: 5"], 1, BAD_DATE),
     (&[b"until @all serial: 5"], 1, BAD_DATE),
@@ -151,6 +148,9 @@ const FAULTY: [(&[&[u8]], u64, &str); 31] = [
         DATE_IN_COMMENT,
     ),
     (&[b"@all id: a #Until=2026-11-15"], 1, DATE_IN_COMMENT),
+    // The calendar need not have the date.
+    (&[b"@all id: a # until 2026-02-30"], 1, DATE_IN_COMMENT),
+    (&[b"@all id: a # until 0000-99-99"], 1, DATE_IN_COMMENT),
     (
         &[CERT_LINE, b" # OPS until:\t 2026-11-15."],
         1,
@@ -185,7 +185,7 @@ fn faults_of_days(rt: HostRuntime) {
 }
 
 // Texts, and the words for their faults.
-const TOLD: [(&[u8], &[u8]); 8] = [
+const TOLD: [(&[u8], &[u8]); 17] = [
     (
         b"untill 2026-11-15 @all id: a",
         b"a last day comes first on a line: until YYYY-MM-DD [text 7 UnknownWord]\n",
@@ -214,6 +214,43 @@ const TOLD: [(&[u8], &[u8]); 8] = [
         b"@all id: a # until 2026-11-15",
         b"a day in a comment ends nothing: begin the line with until YYYY-MM-DD \
 [text 20 DateInComment]\n",
+    ),
+    (
+        b"key-blob: AQ== # until 2026-11-15",
+        b"a key has no last day: take the day out of its comment [text 20 DateInComment]\n",
+    ),
+    (
+        b"@all id: bob until 2026-11-15",
+        b"a day in a key ID ends nothing: begin the line with until YYYY-MM-DD, or use id-hex: \
+for a key ID that has one [text 21 DateInId]\n",
+    ),
+    (
+        b"@all serial: 5 until 2026-11-15",
+        b"a last day comes first on a line: until YYYY-MM-DD [text 1 Spec, spec 1 Number]\n",
+    ),
+    (
+        b"@all serial: 5 until 2026-01-15",
+        b"a last day comes first on a line: until YYYY-MM-DD [text 11 LeadingZero]\n",
+    ),
+    (
+        b"@all serial: a5 until 15.11.2026",
+        b"a serial number is a number below 2^64 [text 1 Spec, spec 1 Number]\n",
+    ),
+    (
+        b"@all id-hex: 61 until 2026-11-15",
+        b"a last day comes first on a line: until YYYY-MM-DD [text 5 Hex]\n",
+    ),
+    (
+        b"@all id-hex: 6",
+        b"no pairs of hexadecimal digits [text 5 Hex]\n",
+    ),
+    (
+        b"@all keys: x",
+        b"behind @NAME comes a colon and a key, or serial:, id: or id-hex: [text 17 MarkedWord]\n",
+    ),
+    (
+        b"@user-ca: SHA256:x",
+        b"no key type stands there [text 1 Spec, spec 6 Key, line 1 NoKey]\n",
     ),
     (
         b"@user-ca: serial: 5",
@@ -288,6 +325,7 @@ fn lines_say_what_is_over(rt: HostRuntime) {
             revocations: Revocations::new(alloc),
             lost: Revocations::new(alloc),
             over,
+            names: NamesByKey::new(alloc),
         };
         let line = made_line(alloc, "r.krl", &facts).expect(&rt, "there is memory");
         let all = joined(alloc, &[b"krl make: r.krl: version 1: ", end]);

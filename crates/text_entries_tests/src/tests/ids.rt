@@ -15,8 +15,10 @@ const QUOTED: &str = "text 12 QuotedId";
 
 const SEVERAL: &str = "text 13 SeveralIds";
 
+const DATED: &str = "text 21 DateInId";
+
 // The values of lines, and how their fault prints.
-const REFUSED: [(&[u8], &str); 20] = [
+const REFUSED: [(&[u8], &str); 28] = [
     (b"\"bob\"", QUOTED),
     (b"\"\"", QUOTED),
     (b"'x'", QUOTED),
@@ -32,8 +34,16 @@ const REFUSED: [(&[u8], &str); 20] = [
     (b"a,b, c", SEVERAL),
     (b"a, b, c # d", SEVERAL),
     (b"'a', b", SEVERAL),
+    (b"bob until 2026-11-14", DATED),
+    (b"until 2026-11-14", DATED),
+    (b"bob UNTIL: 2026-02-30", DATED),
+    (b"bob until=9999-99-99.", DATED),
+    (b"xuntil\t2026-11-14", "text 8 ControlInId"),
+    (b"xuntil2026-11-14 # c", DATED),
     // The first fault of several.
     (b"\"a\", \"b\"", QUOTED),
+    (b"a, b until 2026-11-14", SEVERAL),
+    (b"'until 2026-11-14'", QUOTED),
     (b"ssh-rsa A, b", "text 10 KeyAsId"),
     (b"a,\tb", "text 8 ControlInId"),
     (b"\"a\tb\"", "text 8 ControlInId"),
@@ -53,6 +63,7 @@ fn refused_key_ids(rt: HostRuntime) {
 fn before_any_authority(rt: HostRuntime) {
     assert!(rt; has_fault(&rt, rt.alloc(), &[b"id: \"bob\""], 1, QUOTED));
     assert!(rt; has_fault(&rt, rt.alloc(), &[b"id: a, b"], 1, SEVERAL));
+    assert!(rt; has_fault(&rt, rt.alloc(), &[b"id: until 2026-11-14"], 1, DATED));
 }
 
 // One key ID of all authorities is held.
@@ -105,7 +116,7 @@ fn key_ids_as_they_are(rt: HostRuntime) {
 }
 
 // Key IDs, and their lines in the text of a list.
-const SHOWN: [(&[u8], &[u8]); 18] = [
+const SHOWN: [(&[u8], &[u8]); 23] = [
     (b"\"x\"", b"id-hex: 227822"),
     (b"'x'", b"id-hex: 277827"),
     (b"\"\"", b"id-hex: 2222"),
@@ -115,6 +126,20 @@ const SHOWN: [(&[u8], &[u8]); 18] = [
     (b"a, \"b\"", b"id-hex: 612c20226222"),
     (b", ", b"id-hex: 2c20"),
     (b"ssh-rsa A", b"id-hex: 7373682d7273612041"),
+    (
+        b"until 2026-11-14",
+        b"id-hex: 756e74696c20323032362d31312d3134",
+    ),
+    (
+        b"x until:2026-99-14y",
+        b"id-hex: 7820756e74696c3a323032362d39392d313479",
+    ),
+    (b"until 2026-11-1", b"id: until 2026-11-1"),
+    (
+        b"until, 2026-11-14",
+        b"id-hex: 756e74696c2c20323032362d31312d3134",
+    ),
+    (b"til 2026-11-14", b"id: til 2026-11-14"),
     (b"\"", b"id: \""),
     (b"'", b"id: '"),
     (b"\"x'", b"id: \"x'"),
@@ -131,7 +156,7 @@ fn text_of(rt: &impl Abort, alloc: Global, held: &Revocations<Held>) -> Vec<u8> 
     let mut text = Vec::new(alloc);
     let mut line = Vec::new(alloc);
     for fact in held.facts() {
-        Form::Text
+        Form::Text(None)
             .write_fact(alloc, Fact::Held(fact), &mut line)
             .expect(rt, "there is memory");
         text.extend_from_slice(&line).expect(rt, "there is memory");

@@ -5,8 +5,8 @@ use crate::tests::lines::{has_fault, made};
 use crate::tests::runs::{inputs, said, text};
 use std::alloc::Global;
 use std::process::Abort;
-use test_fixtures::{CERT_LINE, GITHUB_LINE, HEADER, KEY_SECTION, OTHER_LINE, joined};
-use text_run::read_texts;
+use test_fixtures::{CERT_LINE, GITHUB, GITHUB_LINE, HEADER, KEY_SECTION, OTHER_LINE, joined};
+use text_run::{names_in, read_texts};
 
 const BAD_NAME: &str = "text 14 BadName";
 
@@ -298,6 +298,52 @@ above [text 16 UnknownName]\n",
 [text 17 MarkedWord]\n",
     ),
 ];
+
+// A key has its first name in order, whichever text gives it, and names of other keys are no names
+// of it.
+#[test]
+fn names_by_keys(rt: HostRuntime) {
+    let alloc = rt.alloc();
+    let first: [&[u8]; 5] = [
+        b"@p: ",
+        GITHUB_LINE,
+        b"\n@a: ",
+        OTHER_LINE,
+        b"\n@p serial: 5",
+    ];
+    let second: [&[u8]; 3] = [
+        b"until 1969-01-01 @a id: x\n@o: ",
+        GITHUB_LINE,
+        b"\n@p id: b",
+    ];
+    let texts = [
+        text(&rt, alloc, Some(&first)),
+        text(&rt, alloc, Some(&second)),
+    ];
+    let names = names_in(alloc, 0, &texts)
+        .ok()
+        .expect(&rt, "there is memory");
+    assert!(rt;
+        names
+            .name(GITHUB)
+            .is_some_and(|name| name == b"o".as_slice())
+    );
+    assert!(rt; names.name(b"").is_none() && names.name(b"x").is_none());
+    let none = names_in(alloc, 0, &[]).ok().expect(&rt, "there is memory");
+    assert!(rt; none.name(GITHUB).is_none());
+}
+
+// A fault of a text is that of a list that is made of it.
+#[test]
+fn names_of_faulty_texts(rt: HostRuntime) {
+    let alloc = rt.alloc();
+    let texts = [text(&rt, alloc, Some(&[b"\n@o serial: 5"]))];
+    let fault = names_in(alloc, 0, &texts)
+        .err()
+        .expect(&rt, "there is a fault");
+    let line: &[u8] = b"krl: t: line 2: no CA is named \"o\" above [text 16 UnknownName]\n";
+    assert!(rt; said(&rt, alloc, &fault, &texts).as_slice() == line);
+}
 
 // The line about the fault of the second of two texts, u and t.
 fn told(rt: &impl Abort, alloc: Global, first: &[&[u8]], second: &[&[u8]]) -> Vec<u8> {

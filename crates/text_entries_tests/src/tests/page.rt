@@ -3,6 +3,8 @@
 ghost use Rattle.std.specs.Prelude.{◌≡◌, IfOk};
 ghost use Rattle.krl_entries.specs.Revocations.{Revocations as RevocationsOf};
 ghost use Rattle.list_text.specs.Text.{text_of};
+ghost use Rattle.text_entries.specs.AuthorityNames.{NameOfKey};
+ghost use Rattle.text_laws.specs.Names.{AreNames};
 ghost use Rattle.text_laws.specs.ReadBack.{IsStored};
 
 use byte_streams::Lent;
@@ -29,8 +31,8 @@ fn list_of<'a>(alloc: Global, inputs: &'a Inputs<'a>) -> Result<Vec<u8>, MakeFau
 
 /// The names of the text of a list: if it was printed from stored revocations, the same.
 fn restored(alloc: Global, text: &[u8]) -> Result<Revocations<Held>, TextFault>
-    ensures { (r : RevocationsOf) → IsStored r → text.now ≡ text_of r
-        → IfOk result (λ held. held ≡ r) }
+    ensures { (names : NameOfKey) (r : RevocationsOf) → AreNames names → IsStored r
+        → text.now ≡ text_of names r → IfOk result (λ held. held ≡ r) }
 {
     text_reads_back();
     let mut held = Revocations::new(alloc);

@@ -9,6 +9,7 @@ use ssh_wire::Bytes;
 use std::alloc::Global;
 use std::process::Abort;
 use test_fixtures::{FIVE, GITHUB_LINE, HEADER, KEY_SECTION, joined};
+use text_entries::NamesByKey;
 use text_run::{Facts, Inputs, MakeFault, Over, Text, fault_line, made_line, read_texts};
 
 /// A text of these parts, by the name `t`; without parts it cannot be opened.
@@ -59,6 +60,7 @@ pub fn said_made(
         revocations,
         lost,
         over: 0,
+        names: NamesByKey::new(alloc),
     };
     made_line(alloc, "r.krl", &facts).expect(rt, "there is memory")
 }

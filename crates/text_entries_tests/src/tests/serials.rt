@@ -135,6 +135,7 @@ fn causes(rt: HostRuntime) {
         (TextCause::LeadingZero, 11, LEADING_ZERO),
         (TextCause::QuotedId, 12, "text 12 QuotedId"),
         (TextCause::SeveralIds, 13, "text 13 SeveralIds"),
+        (TextCause::DateInId, 21, "text 21 DateInId"),
     ];
     for (i, (cause, number, text)) in rows.iter().enumerate() {
         let said = cause.to_string(rt.alloc()).expect(&rt, "there is memory");

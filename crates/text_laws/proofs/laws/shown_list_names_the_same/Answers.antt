@@ -6,5 +6,5 @@ pub returns-clause-shown : goal.returns-clause-shown
 returns-clause-shown c list bytes entries fits names means whole = can_be_shown c.line_read_as_spelled.ensures.read bytes list entries fits names means whole
 
 pub returns-clause-names : goal.returns-clause-names
-returns-clause-names c list bytes entries today fits names means whole =
-    list_named_back list entries today (can_be_shown c.line_read_as_spelled.ensures.read bytes list entries fits names means whole) means
+returns-clause-names c given list bytes entries today are fits names means whole =
+    list_named_back given are list entries today (can_be_shown c.line_read_as_spelled.ensures.read bytes list entries fits names means whole) means

@@ -19,5 +19,4 @@ loop-text-preserved g c =
     text_added _ _ _ _ _ _ _ _ _ at c.in_ok-add_text.ensures
 
 pub returns : goal.returns
-returns g c =
-    rw c.over.ensures (all_added _ _ _ _ _ (rw (drop_all c.loop-text.text-index c.args.texts.now c.loop-text-test.false) at c.loop-text.invariant))
+returns g c = all_added _ _ _ _ _ (rw (drop_all c.loop-text.text-index c.args.texts.now c.loop-text-test.false) at c.loop-text.invariant)

@@ -1,7 +1,7 @@
 -- No more is looked at than the text has.
 use Rattle.std.proofs.Common.{sym}
 use Rattle.std.proofs.lemmas.List.{take_min}
-use Rattle.text_entries.proofs.values.looks_like_key.Goals as goal
+use Rattle.text_entries.proofs.key_id.looks_like_key.Goals as goal
 
 pub returns-then-has_blank : goal.returns-then-has_blank
 returns-then-has_blank c =
