@@ -1,0 +1,13 @@
+pub mod Bools
+pub mod CommonFronts
+pub mod Places
+pub mod Keys
+pub mod AddedNames
+pub mod Gathered
+pub mod FactNames
+pub mod Indexed
+pub mod Lines
+pub mod ReasonNames
+pub mod Chosen
+pub mod Explained
+pub mod Meant

@@ -1,0 +1,38 @@
+-- Which lines explain that a key or a certificate is revoked.
+use Rattle.std.specs.Prelude.{◌≡◌, Bool, ◌&&◌, not, List, [], ◌∷◌, map}
+use Rattle.std.specs.List.{filter, list_any}
+use Rattle.krl_types.specs.Subject.{Subject}
+use Rattle.krl_entries.specs.Reasons.{bits_in, every_reason, has_reason, reasons_of}
+use Rattle.krl_entries.specs.declared.reasons.Reason.{Reason}
+use Rattle.krl_entries.specs.declared.reasons.Reasons.{Reasons}
+use Rattle.text_index.specs.Indexing.{line_of}
+use Rattle.text_index.specs.NamingLines.{NamingLine}
+use Rattle.text_index.specs.declared.explaining.Explanation.{Explanation}
+
+-- The entry of the line gives this reason.
+abbrev pub gives : Subject → Reason → NamingLine → Bool
+gives asked reason line = has_reason (reasons_of (line.entry ∷ []) asked) reason
+
+-- The entry of the line gives one of these reasons.
+unfoldable pub explains : Subject → Reasons → NamingLine → Bool
+explains asked reasons line =
+    list_any (λ reason. has_reason reasons reason && gives asked reason line) every_reason
+
+-- the lines that give one of these reasons, in order
+unfoldable pub explaining : List NamingLine → Subject → Reasons → List NamingLine
+explaining lines asked reasons = filter (explains asked reasons) lines
+
+-- those of these reasons that no line gives
+unfoldable pub unnamed_by : List NamingLine → Subject → Reasons → Reasons
+unnamed_by lines asked reasons =
+    let is_unnamed : Reason → Bool =
+    λ reason. has_reason reasons reason && not (list_any (gives asked reason) lines) in
+    record { bits = bits_in (map is_unnamed every_reason) }
+
+-- The lines are exactly those that give one of the reasons, and each reason that none gives is
+-- unnamed.
+pub record Explains (lines : List NamingLine) (asked : Subject) (reasons : Reasons)
+    (explanation : Explanation) : Type 0 where
+  pub lines_are : map line_of explanation.lines.items
+      ≡ map (λ line. line.line) (explaining lines asked reasons)
+  pub unnamed_is : explanation.unnamed ≡ unnamed_by lines asked reasons

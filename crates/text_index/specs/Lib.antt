@@ -1,0 +1,7 @@
+pub mod Fronts
+pub mod Postings
+pub mod NameIndex
+pub mod NamingLines
+pub mod Indexing
+pub mod Explaining
+pub mod Found

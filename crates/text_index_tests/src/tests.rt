@@ -1,0 +1,5 @@
+//! Lines of texts that are found, and the caller of the page.
+
+mod found;
+mod many;
+mod page;
