@@ -6,6 +6,7 @@ import subprocess
 
 import lists
 import specs
+from files import AUTHORITY, certificate, line
 from measure import AUDIT, OURS, build_audit, instructions, least_in_turn, own
 
 LIST = 4 << 20
@@ -21,6 +22,9 @@ NAMED_LINES = {
 NAMES = (1, 50)
 # Last days: one to come, and one that is over.
 DAYS = {"to come": "2999-12-31", "over": "1999-12-31"}
+# Audited files, each of which has as many revoked keys as are printed one by one.
+AUDITED, PRINTED = 50, 20
+EXPLAINED_LINES = {**NAMED_LINES, "keys": specs.keys}
 # Shapes whose entries differ if the sizes do, and those whose entries then are nearly the same.
 PAIRS = ("random serials", "ranges", "key IDs", "many authorities", "explicit keys")
 
@@ -105,6 +109,47 @@ def dated():
             row(what, *least_in_turn(commands, 31), "%12.2f" % (make / other))
 
 
+def revoked_by(entry):
+    """The line of a key or of a certificate that an entry revokes."""
+    word, _, value = entry.partition(": ")
+    if word == "serial":
+        return line(certificate(int(value.split("-")[0]), b"nobody"))
+    return line(certificate(1, value.strip().encode())) if word == "id" else entry
+
+
+def explained():
+    """Findings that are explained by the lines of a text, whether the list is made of it or given,
+    beside the same audit by the list alone. So each figure is the price of the text. The last row
+    of each kind adds up krl make and the audit by its list."""
+    findings = AUDITED * PRINTED
+    head("krl audit -t, %d findings in %d files" % (findings, AUDITED), "-f alone")
+    files = ["audited-%d" % at for at in range(AUDITED)]
+    make = [AUDIT, *"make -q --replace -f made.krl text".split()]
+    for name, lines in EXPLAINED_LINES.items():
+        entries = lines(NAMED, random.Random(1))
+        with open("text", "w") as out:
+            out.writelines(["ca: " + line(AUTHORITY), *entries])
+        revoked = [revoked_by(it) for it in entries[:: NAMED // findings]]
+        for at, file in enumerate(files):
+            with open(file, "w") as out:
+                out.writelines(revoked[at * PRINTED : (at + 1) * PRINTED])
+        subprocess.run(make, check=True)
+        audit = [AUDIT, "audit"]
+        alone, text, beside, made = least_in_turn(
+            [
+                [*audit, "-f", "made.krl", *files],
+                [*audit, "-t", "text", *files],
+                [*audit, "-f", "made.krl", "-t", "text", *files],
+                make,
+            ]
+        )
+        what = "%d %s" % (NAMED, name)
+        row(what + ", -t", text, alone)
+        row(what + ", -f and -t", beside, alone)
+        both = made[0] + alone[0], max(made[1], alone[1])
+        row(what + ", -t beside krl make and -f", text, both)
+
+
 def compared():
     """Two lists, beside both of them printed."""
     if subprocess.run([AUDIT, "help", "diff"], capture_output=True).returncode != 0:
@@ -126,4 +171,5 @@ def texts():
     made()
     named()
     dated()
+    explained()
     compared()

@@ -9,7 +9,7 @@ _krl() {
     offered=$(compgen -W 'audit check show make diff' -- "$word")
   elif [ "$before" = --max-age ]; then
     offered=$(compgen -W '90m 24h 7d' -- "$word")
-  elif [[ $word != -* || $before == -*f ||
+  elif [[ $word != -* || $before == -*([!-])[ft] ||
     $before == --@(files0-from|newer-than|superset-of|keep|canary|names) ]]; then
     offered=$(compgen -f -- "$word")
     compopt -o filenames 2>/dev/null
@@ -24,7 +24,7 @@ _krl() {
     offered=$(compgen -W '-f -n -q -u -z --comment --replace --allow-empty --help
       --version' -- "$word")
   else
-    offered=$(compgen -W '-a -f -q -x --all --canary --exclude --json --files0-from --help
+    offered=$(compgen -W '-a -f -q -t -x --all --canary --exclude --json --files0-from --help
       --version' -- "$word")
   fi
   [ -z "$offered" ] || mapfile -t COMPREPLY <<<"$offered"

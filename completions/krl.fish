@@ -23,6 +23,8 @@ complete -c krl -s h -l help -d 'Print help'
 complete -c krl -s V -l version -d 'Print version'
 complete -c krl -n "$audits" -F
 complete -c krl -n "$audits" -s f -rF -d 'The revocation list'
+complete -c krl -n "$audits" -s t -rF \
+  -d 'Name the lines of this text that explain a finding'
 complete -c krl -n "$audits" -s a -d 'Name the keys that are not revoked as well'
 complete -c krl -n "$audits" -s q -d 'Print nothing on standard output'
 complete -c krl -n "$audits" -s x -d 'Stay on the file system of each directory that is named'

@@ -799,28 +799,6 @@ judge 'an error output that is closed' \
 
 # At a terminal. The words for the verdicts are in colour on standard output. Standard error says
 # how far the audit is, after its first second.
-# at STREAMS WORD..: runs the program at a terminal, with nothing about colours in its environment.
-at() {
-  rm -f "$scratch/terminal"
-  env -u NO_COLOR TERM=xterm "${setting[@]}" python3 "$tests/lib/terminal.py" \
-    "$scratch/terminal" "$1" "$program" "${@:2}" >"$scratch/output" 2>"$scratch/error"
-  got_status=$?
-}
-# painted TEXT: the text, with the words for the verdicts in colour (ECMA-48, SELECT GRAPHIC
-# RENDITION).
-painted() {
-  sed -e $'s/: revoked: /: \e[31mrevoked\e[0m: /' -e $'s/: ok: /: \e[32mok\e[0m: /' \
-    -e $'s/: unread: /: \e[33munread\e[0m: /' <<<"$1"
-}
-# shows NAME STREAMS STATUS TERMINAL OTHER WORD..: what the terminal is sent, and the stream that is
-# none.
-shows() {
-  at "$2" "${@:6}"
-  judge "$1" "$(differs status "$3" $got_status
-    differs 'the terminal' "$4" "$(cat "$scratch/terminal")"
-    differs 'the other stream' "$5" "$(cat "$scratch/output" "$scratch/error")"
-  )"
-}
 setting=()
 printf '%s \e[31mred\n%s\nnone\n' "$g" "$b" >$'\e[7mkeys'
 plain='\x1b[7mkeys:1: '"$by_g"': \x1b[31mred
@@ -828,28 +806,32 @@ plain='\x1b[7mkeys:1: '"$by_g"': \x1b[31mred
 \x1b[7mkeys:3: '"$no_type"
 of_list='(list version 1, 1970-01-01T00:00:00Z)'
 summary="krl audit: 1 file, 2 keys: 1 revoked in 1 file, 1 unread $of_list"
-shows 'colours at a terminal' 1 1 "$(painted "$plain")" "$summary" audit -a -f r.krl $'\e[7mkeys'
-shows 'one terminal for both streams' 12 1 "$(painted "$plain")"$'\n'"$summary" '' \
+expect_terminal 'colours at a terminal' 1 1 "$(painted "$plain")" "$summary" \
   audit -a -f r.krl $'\e[7mkeys'
-shows 'no colour on standard error' 2 1 "$summary" "$plain" audit -a -f r.krl $'\e[7mkeys'
+expect_terminal 'one terminal for both streams' 12 1 "$(painted "$plain")"$'\n'"$summary" '' \
+  audit -a -f r.krl $'\e[7mkeys'
+expect_terminal 'no colour on standard error' 2 1 "$summary" "$plain" \
+  audit -a -f r.krl $'\e[7mkeys'
 line ssh-ed25519 "$G" >g.pub
-shows 'no colour of krl check' 1 1 "g.pub:1: $by_g
+expect_terminal 'no colour of krl check' 1 1 "g.pub:1: $by_g
 keep: g.pub: 1 of 1 key is revoked, 0 lines are not read" '' check --keep g.pub r.krl
 for it in NO_COLOR=1 NO_COLOR=0 NO_COLOR=$'\xff' TERM=dumb; do
   setting=("$it")
-  shows "no colour with $(printf %q "$it")" 1 1 "$plain" "$summary" audit -a -f r.krl $'\e[7mkeys'
+  expect_terminal "no colour with $(printf %q "$it")" 1 1 "$plain" "$summary" \
+    audit -a -f r.krl $'\e[7mkeys'
 done
 for it in NO_COLOR= CLICOLOR=0; do
   setting=("$it")
-  shows "colours with $it" 1 1 "$(painted "$plain")" "$summary" audit -a -f r.krl $'\e[7mkeys'
+  expect_terminal "colours with $it" 1 1 "$(painted "$plain")" "$summary" \
+    audit -a -f r.krl $'\e[7mkeys'
 done
 setting=()
 "$program" audit --json -a -f r.krl $'\e[7mkeys' >objects 2>/dev/null
-shows 'objects without colours' 1 1 "$(cat objects)" "$summary" \
+expect_terminal 'objects without colours' 1 1 "$(cat objects)" "$summary" \
   audit --json -a -f r.krl $'\e[7mkeys'
 judge 'they have no escape' "$(asks 1 grep -n $'\e' objects)"
 setting=(CLICOLOR_FORCE=1)
-at 2 audit -a -f r.krl $'\e[7mkeys'
+at_terminal 2 audit -a -f r.krl $'\e[7mkeys'
 judge 'no colour where there is no terminal' \
   "$(differs 'standard output' "$plain" "$(cat "$scratch/output")")"
 setting=()
@@ -875,21 +857,23 @@ found="marked:1: $by_g
 gone: unread: No such file or directory"
 summary="krl audit: 2 files, 1 key: 1 revoked in 1 file, 1 unread $of_list"
 missed='gone: unread: No such file or directory'
-shows 'how far the audit is, wiped before a finding' 12 1 \
+expect_terminal 'how far the audit is, wiped before a finding' 12 1 \
   "$(painted "$found")"$'\n'"$(far '2 files' '1 key' 1 1)$(painted "$missed")
 krl audit: 3 files, 1 key: 1 revoked in 1 file, 2 unread $of_list" '' \
   audit -f r.krl --files0-from - < <(slowly marked gone && printf 'gone\0')
-shows 'how far it is, wiped at the end' 2 1 "$(far '2 files' '1 key' 1 1)$summary" "$found" \
+expect_terminal 'how far it is, wiped at the end' 2 1 \
+  "$(far '2 files' '1 key' 1 1)$summary" "$found" \
   audit -f r.krl --files0-from - < <(slowly marked gone)
 setting=(NO_COLOR=1)
-shows 'how far it is, of a quiet audit with NO_COLOR' 2 3 \
+expect_terminal 'how far it is, of a quiet audit with NO_COLOR' 2 3 \
   "$(far '2 files' '1 key' 0 1)${summary/1 revoked in 1 file/0 revoked in 0 files}" '' \
   audit -q -f r.krl --files0-from - < <(slowly home/a/x.pub gone)
 setting=()
 # A line may be shorter than the one before: "1 file" after "0 files". Nothing of the longer one may
 # stay on the terminal.
 mkdir single nobody && echo "$b" >single/x.pub
-at 2 audit --all -q -f r.krl --files0-from - < <(slowly nobody single && sleep 1 && printf 'gone\0')
+at_terminal 2 audit --all -q -f r.krl --files0-from - \
+  < <(slowly nobody single && sleep 1 && printf 'gone\0')
 judge 'how far it is, of fewer characters than before' "$(differs status 3 $got_status
   python3 - "$scratch/terminal" <<'END' || echo '  what the terminal is sent cannot be read'
 import re, sys
@@ -908,7 +892,8 @@ for it in wanted:
         print("  it does not show " + it)
 END
 )"
-shows 'how far it is is said at a terminal alone' 1 1 "$(painted "$found")" "$summary" \
+expect_terminal 'how far it is is said at a terminal alone' 1 1 \
+  "$(painted "$found")" "$summary" \
   audit -f r.krl --files0-from - < <(slowly marked gone)
 { slowly home/a/x.pub empty && printf 'marked\0'; } |
   python3 "$tests/lib/terminal.py" "$scratch/terminal" 2 \
@@ -919,7 +904,7 @@ judge 'how far it is, wiped before a fault' "$(differs status 255 $?
 # In its first second nothing is said. On a machine that is too busy for that it is tried again.
 for _ in 1 2 3 4 5 6 7 8 9; do
   began=$(date +%s%N)
-  at 2 audit -f r.krl marked
+  at_terminal 2 audit -f r.krl marked
   [ $(($(date +%s%N) - began)) -ge 1000000000 ] || break
 done
 judge 'in its first second nothing is said' "$(differs 'standard error' \
@@ -927,40 +912,11 @@ judge 'in its first second nothing is said' "$(differs 'standard error' \
 
 # JSON. The expected objects are made from the same values as the lines above, and another reader
 # reads both: jq, or Python where jq is missing and cannot be installed.
-# read_lines FILE: the object of each line, in one form. It fails where a line is no object.
-if need jq jq; then
-  read_lines() {
-    iconv -f UTF-8 -t UTF-8 "$1" >/dev/null && jq -cSR 'fromjson | objects' "$1"
-  }
-else
-  read_lines() {
-    python3 - "$1" <<'END'
-import json, sys
-for line in open(sys.argv[1], encoding="utf-8").read().split("\n")[:-1]:
-    print(json.dumps(dict(json.loads(line)), sort_keys=True))
-END
-  }
-fi
 for it in '{"a":' '{"a":1}}' '{"a":1} {"a":1}' "{'a':1}" '[1]' $'{"a":"\xff"}'; do
   printf '%s\n' "$it" >no-object
   judge "the reader refuses $(printf %q "$it")" \
     "$([ -z "$(read_lines no-object 2>/dev/null)" ] || echo '  it reads an object')"
 done
-# objects NAME STATUS WANTED WORD..: each line is one object, and the objects are these.
-objects() {
-  local name=$1 status=$2 wanted=$3 got
-  shift 3
-  "$program" audit --json "$@" >"$scratch/output" 2>"$scratch/error"
-  got=$?
-  printf '%s\n' "$wanted" >wanted
-  judge "$name" "$(differs status "$status" $got
-    differs 'the last byte' 0a "$(tail -c 1 "$scratch/output" | od -An -tx1 | tr -d ' ')"
-    read_lines wanted >wanted.read || echo '  what is wanted cannot be read'
-    read_lines "$scratch/output" >got.read || echo '  they cannot be read'
-    differs 'the objects' "$(wc -l <"$scratch/output")" "$(wc -l <got.read)"
-    asks 0 diff wanted.read got.read
-  )"
-}
 key_g="\"type\":\"ssh-ed25519\",\"fingerprint\":\"$(fingerprint "$G")\""
 list_of_g='"list":{"file":"r.krl","version":"1","generated":"1970-01-01T00:00:00Z",'
 list_of_g+="\"sha256\":\"$(sha256sum r.krl | cut -d ' ' -f 1)\"}"
@@ -971,57 +927,57 @@ ends_with() {
 by_key='"reasons":[{"by":"key"}]'
 printf 'no-pty %s \xc3\xa9"\\\n\n# none\ngarbage\n' "$g" >authorized_keys
 printf 'no-pty\r %s\n' "$g" >returned
-objects 'objects of lines' 1 \
+expect_objects 'objects of lines' 1 \
   "{\"file\":\"authorized_keys\",\"line\":1,\"status\":\"revoked\",$key_g,\
 \"comment\":\"\u00e9\\\"\\\\\",\"options\":\"no-pty\",$by_key}
 {\"file\":\"authorized_keys\",\"line\":4,\"status\":\"unread\",\"fault\":\"line 1 NoKey\",\
 \"why\":\"no key type stands there\"}
 $(ends_with 1 1 1 1)" -f r.krl authorized_keys
-objects 'a carriage return at the end of options' 1 \
+expect_objects 'a carriage return at the end of options' 1 \
   "{\"file\":\"returned\",\"line\":1,\"status\":\"revoked\",$key_g,\
 \"comment\":\"\",\"options\":\"no-pty\\r\",$by_key}
 $(ends_with 1 1 1 0)" -f r.krl returned
 echo "a.example $g" >known_hosts2
-objects 'an object of a host in known_hosts2' 1 \
+expect_objects 'an object of a host in known_hosts2' 1 \
   "{\"file\":\"known_hosts2\",\"line\":1,\"status\":\"revoked\",$key_g,\
 \"comment\":\"\",\"hosts\":\"a.example\",$by_key}
 $(ends_with 1 1 1 0)" -f r.krl known_hosts2
-objects 'the number of other lines that are not read' 3 "$(
+expect_objects 'the number of other lines that are not read' 3 "$(
   for ((i = 2; i <= 21; i++)); do
     echo "{\"file\":\"one_more\",\"line\":$i,\"status\":\"unread\",\"fault\":\"line 1 NoKey\",\
 \"why\":\"no key type stands there\"}"
   done)
 {\"file\":\"one_more\",\"status\":\"unread\",\"count\":1,\"why\":\"and 1 more line is unread\"}
 $(ends_with 1 1 0 21)" -f r.krl one_more
-objects 'the number of other revoked lines' 1 "$(
+expect_objects 'the number of other revoked lines' 1 "$(
   for ((i = 1; i <= 20; i++)); do
     echo "{\"file\":\"one_revoked\",\"line\":$i,\"status\":\"revoked\",$key_g,\
 \"comment\":\"\",$by_key}"
   done)
 {\"file\":\"one_revoked\",\"status\":\"revoked\",\"count\":1}
 $(ends_with 1 21 21 0)" -f r.krl one_revoked
-objects 'an object of a key ID with a zero byte' 3 \
+expect_objects 'an object of a key ID with a zero byte' 3 \
   "{\"file\":\"zero_id\",\"line\":1,\"status\":\"unread\",\"fault\":\"audit 2 ZeroInId\",\
 \"why\":\"its key ID has a zero byte\"}
 $(ends_with 1 0 0 1)" -f r.krl zero_id
 printf '@cert-authority a.example,b.example %s\n' "$g" >known_hosts
-objects 'objects by a plain list' 0 \
+expect_objects 'objects by a plain list' 0 \
   "{\"status\":\"done\",\"files\":1,\"keys\":1,\"revoked\":0,\"unread\":0,\
 \"skipped\":0,\"excluded\":0,\"elsewhere\":0,\"same\":0,\
 \"list\":{\"file\":\"plain\",\"sha256\":\"$(sha256sum plain | cut -d ' ' -f 1)\"}}" \
   -f plain home/a/x.pub
-objects 'an object of a known host' 1 \
+expect_objects 'an object of a known host' 1 \
   "{\"file\":\"known_hosts\",\"line\":1,\"status\":\"revoked\",$key_g,\
 \"comment\":\"\",\"marker\":\"@cert-authority\",\"hosts\":\"a.example,b.example\",$by_key}
 $(ends_with 1 1 1 0)" -f r.krl known_hosts
-objects 'a comment that is not UTF-8 in base64' 1 \
+expect_objects 'a comment that is not UTF-8 in base64' 1 \
   "{\"file\":\"high\",\"line\":1,\"status\":\"revoked\",$key_g,\
 \"comment_base64\":\"$(printf '\x9b1m\xff' | base64)\",$by_key}
 $(ends_with 1 1 1 0)" -f r.krl high
 controls=$'c1\x7f\xc2\x9b\u202e'
 printf '%s ~\x7f\xc2\x80\xc2\x9f\xc2\xa0\xc3\x9b\xd8\x9c\xe2\x80\xa9\xe2\x81\xa9\xe2\x81\xaa\n' \
   "$g" >"$controls"
-objects 'control characters of a name and of a comment' 1 \
+expect_objects 'control characters of a name and of a comment' 1 \
   "{\"file\":\"c1\u007f\u009b\u202e\",\"line\":1,\"status\":\"revoked\",$key_g,\
 \"comment\":\"~\u007f\u0080\u009f\u00a0\u00db\u061c\u2029\u2069\u206a\",$by_key}
 $(ends_with 1 1 1 0)" -f r.krl "$controls"
@@ -1033,20 +989,20 @@ judge 'a terminal is sent none of them' "$(
   differs 'the comment' \
     $'"~\\u007f\\u0080\\u009f\xc2\xa0\xc3\x9b\\u061c\\u2029\\u2069\xe2\x81\xaa"' \
     "$(grep -o '"~[^"]*"' "$scratch/output")")"
-objects 'an object of a file' 3 \
+expect_objects 'an object of a file' 3 \
   "{\"file\":\"gone\",\"status\":\"unread\",\"fault\":\"file 1 Open\",\
 \"why\":\"No such file or directory\"}
 $(ends_with 1 0 0 1)" -f r.krl gone
-objects 'no file at all' 0 "$(ends_with 0 0 0 0)" --all -f r.krl nothing
-objects 'an object of a name that leads to the same file' 1 \
+expect_objects 'no file at all' 0 "$(ends_with 0 0 0 0)" --all -f r.krl nothing
+expect_objects 'an object of a name that leads to the same file' 1 \
   "{\"file\":\"marked\",\"line\":1,\"status\":\"revoked\",$key_g,\"comment\":\"\",$by_key}
 {\"file\":\"marked\",\"status\":\"same\"}
 $(ends_with 1 1 1 0 0 1)" -f r.krl marked marked
-objects 'an object with the number of skipped names' 3 \
+expect_objects 'an object with the number of skipped names' 3 \
   "{\"file\":\"none.d\",\"status\":\"unread\",\"fault\":\"file 5 NoKeys\",\
 \"why\":\"no file in this directory is read by its name\"}
 $(ends_with 1 0 0 1 1)" -f r.krl none.d
-objects 'keys that are not revoked' 0 "{\"file\":\"home/a/x.pub\",\"line\":1,\"status\":\"ok\",\
+expect_objects 'keys that are not revoked' 0 "{\"file\":\"home/a/x.pub\",\"line\":1,\"status\":\"ok\",\
 \"type\":\"ssh-ed25519\",\"fingerprint\":\"$(fingerprint "$B")\",\"comment\":\"\",\"reasons\":[]}
 $(ends_with 1 1 0 0)" -a -f r.krl home/a/x.pub
 expect 'no objects quietly' 1 '' "krl audit: 1 file, 1 key: 1 revoked in 1 file, 0 unread \
@@ -1059,7 +1015,7 @@ by_names=${by_names//A\}/"\"$(fingerprint "$A")\"}"}
 made=$(date -u -d "@$((16#$(od -An -v -tx1 -j 20 -N 8 every.krl | tr -d ' ')))" +%FT%TZ)
 list_of_g="\"list\":{\"file\":\"every.krl\",\"version\":\"0\",\"generated\":\"$made\","
 list_of_g+="\"sha256\":\"$(sha256sum every.krl | cut -d ' ' -f 1)\"}"
-objects 'the object of a certificate' 1 "{\"file\":\"cert\",\"line\":1,\"status\":\"revoked\",\
+expect_objects 'the object of a certificate' 1 "{\"file\":\"cert\",\"line\":1,\"status\":\"revoked\",\
 \"type\":\"ssh-ed25519-cert-v01@openssh.com\",\"fingerprint\":\"$(fingerprint "$B")\",\
 \"comment\":\"me\",\"certificate\":{\"serial\":\"7\",\"id\":\"a \\\"b\\\"\",\
 \"authority\":\"$(fingerprint "$A")\"},\

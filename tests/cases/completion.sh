@@ -58,7 +58,7 @@ offers_krl 'the tasks of krl' --help,--version,audit,check,diff,help,make,show '
 offers_krl 'the tasks that have help' audit,check,diff,make,show help ''
 offers_krl 'the task that was begun' audit a
 offers_krl 'the options of an audit' \
-  --all,--canary,--exclude,--files0-from,--help,--json,--version,-a,-f,-q,-x audit -
+  --all,--canary,--exclude,--files0-from,--help,--json,--version,-a,-f,-q,-t,-x audit -
 offers_krl 'a file of canaries' one.pub audit -f two.krl --canary o
 offers_krl 'a list' two.krl audit -f t
 offers_krl 'files to audit' "$every" audit -f two.krl ''

@@ -412,7 +412,7 @@ $at/b/.ssh/authorized_keys2: status 1" again
 cd .. && at=$PWD/home
 followed=$((followed + 1))
 judge 'the revoked keys of a host' "$(
-  found=$(try_recipe 'krl audit' | grep "^$at" | cut -d: -f 1-3)
+  found=$(try_recipe 'krl audit -f revoked.krl --canary' | grep "^$at" | cut -d: -f 1-3)
   differs 'what it finds' "$at/a/.ssh/authorized_keys:6: revoked
 $at/b/.ssh/authorized_keys:2: unread
 $at/b/.ssh/authorized_keys:3: revoked
@@ -420,8 +420,8 @@ $at/d/.ssh/authorized_keys:1: revoked" "$found"
 )"
 "$program" -k -f revoked.krl alice.pub
 judge 'no file is read where the list does not revoke the canary' "$(
-  differs 'what it finds' '' "$(try_recipe 'krl audit' | grep "^$at")"
-  is_refused 'krl audit'
+  differs 'what it finds' '' "$(try_recipe 'krl audit -f revoked.krl --canary' | grep "^$at")"
+  is_refused 'krl audit -f revoked.krl --canary'
 )"
 printf 'ca: all\nserial: 5\n' >more.txt
 follows 'lines are added to a list whose text is lost' 'krl make -u' 0 '*'

@@ -327,6 +327,30 @@ mv revoked.krl whole.krl && head -c 60 whole.krl >revoked.krl
 follows 'the entries of an authority in a truncated list' "$ours" 1 '*' again
 mv whole.krl revoked.krl
 
+# ---- the lines of a text that revoke a key
+
+cp revoked.txt kept.txt && cp revoked.krl kept.krl
+{
+  sed 's/^/@user-ca: /' host-ca.pub && echo '@user-ca serial: 5-6   # OPS-1'
+  printf 'key: %s   # OPS-2\n' "$(cut -d ' ' -f 1,2 alice.pub)"
+} >revoked.txt
+"$krl" make -q --replace -f revoked.krl revoked.txt
+ticket='krl audit -f revoked.krl -t revoked.txt' by_text='krl audit -t revoked.txt /root /home'
+follows 'the ticket of a revoked key' "$ticket" 1 '*'
+judge 'it is that of its line' "$(
+  differs 'the lines' "  revoked.txt:3: key: $(cut -d ' ' -f 1,2 alice.pub)   # OPS-2" \
+    "$(try_recipe "$ticket" 2>/dev/null | grep '^  ')"
+)"
+mkdir -p home/erin/.ssh of_root/.ssh && cat alice.pub >home/erin/.ssh/authorized_keys
+follows 'an audit by a text alone' "$by_text" 1 '*'
+judge 'it makes no list' "$(
+  rm revoked.krl && try_recipe "$by_text" >/dev/null 2>&1
+  ls revoked.krl 2>/dev/null
+)"
+echo 'serail: 5' >>revoked.txt
+follows 'an audit by a text with a wrong line' "$by_text" 255 '*' again
+rm -r home of_root && mv kept.txt revoked.txt && mv kept.krl revoked.krl
+
 # ---- the revoked keys of a whole host
 
 whole='{ find / -xdev'

@@ -23,14 +23,22 @@ DEVICE = strings("sk-ssh-ed25519@openssh.com", b"\x31" * 32, "ssh:")
 
 
 def certificate(
-    serial, key_id, principals=b"", after=0, before=HIGHEST, critical=b"", extensions=b""
+    serial,
+    key_id,
+    principals=b"",
+    after=0,
+    before=HIGHEST,
+    critical=b"",
+    extensions=b"",
+    key=KEY,
+    authority=AUTHORITY,
 ):
     return (
-        strings(CERT, b"nonce", KEY[-32:])
+        strings(CERT, b"nonce", key[-32:])
         + struct.pack(">QI", serial, 1)
         + strings(key_id, principals)
         + struct.pack(">QQ", after, before)
-        + strings(critical, extensions, b"", AUTHORITY, strings("ssh-ed25519", bytes(64)))
+        + strings(critical, extensions, b"", authority, strings("ssh-ed25519", bytes(64)))
     )
 
 
@@ -107,6 +115,21 @@ def whole_spec():
     )
 
 
+def whole_text():
+    """A text of a list with every word, a name, and a last day that is over and one that is not."""
+    hashed = base64.b64encode(hashlib.sha256(KEY).digest()).decode().rstrip("=")
+    return (
+        "# of everything\n\n@users: %s@users serial: 5-4000 # OPS-1\n" % line(AUTHORITY, "users")
+        + "until 2099-12-31 @users id: a\nuntil 1999-12-31 @all serial: 7\n"
+        + "ca: all\nserial: 3\nserial: 0x8-0x9\nid-hex: 62 # b\n"
+        + "ca-blob: %s\nid: an id\n" % base64.b64encode(AUTHORITY).decode()
+        + "key: %ssha1: %ssha256: %s" % (line(OTHER), line(RSA), line(ECDSA, "a comment"))
+        + "key-blob: AQ==\nhash: SHA256:%s\n" % hashed
+        + line(DEVICE, "a device")
+        + line(SEVENTH)
+    )
+
+
 def scattered(count):
     """The first odd numbers, no two in one interval, the lowest and the highest in turn."""
     rising = range(1, 2 * count, 2)
@@ -140,6 +163,9 @@ def contents():
         "wrong.spec": "serial: 6\nid: c\nserial: 9-7\n",
         "scattered.spec": "".join("serial: %d\n" % it for it in scattered(1024)),
         "long.spec": "".join("id: %s%d\n" % ("a long id " * 100, at) for at in range(70)),
+        "whole.txt": whole_text(),
+        "more.txt": "@users serial: 7 # OPS-2\n",
+        "wrong.txt": whole_text() + "@users serial: 9-7\n",
     }
     bytes_of = {
         "key.krl": HEADER + section(2, string(KEY)),

@@ -13,7 +13,7 @@ use Rattle.run_output.specs.Carries.{Carries, IsEnded}
 use Rattle.run_output.specs.Printer.{HasSaid, Printer}
 use Rattle.run_output.specs.Run.{Item, Stopped}
 use Rattle.krl_types.specs.Subject.{Subject}
-use Rattle.krl_entries.specs.declared.reasons.Reasons.{Reasons}
+use Rattle.audit_text.specs.Answer.{Answer}
 use Rattle.krl_audit.specs.Audit.{JudgesAs, ToldFile, file_kinds}
 use Rattle.krl_audit.specs.Counts.{all_counted}
 use Rattle.krl_audit.specs.declared.counts.Counts.{Counts}
@@ -32,30 +32,30 @@ use Rattle.audit_run.specs.declared.stop.Stop.TheVariants as stops
 
 -- ---- items and tallies
 
-items_append : (reasons : Subject → Reasons) (shown : Shown) (xs ys : List Visit)
-    → visits_items reasons shown (xs ++ ys) ≡ visits_items reasons shown xs ++ visits_items reasons shown ys
+items_append : (answers : Subject → Answer) (shown : Shown) (xs ys : List Visit)
+    → visits_items answers shown (xs ++ ys) ≡ visits_items answers shown xs ++ visits_items answers shown ys
 unfolding visits_items
-items_append reasons shown xs ys = flat_map-append (visit_items reasons shown) xs ys
+items_append answers shown xs ys = flat_map-append (visit_items answers shown) xs ys
 
-items_one : (reasons : Subject → Reasons) (shown : Shown) (visit : Visit)
-    → visits_items reasons shown (visit ∷ []) ≡ visit_items reasons shown visit
+items_one : (answers : Subject → Answer) (shown : Shown) (visit : Visit)
+    → visits_items answers shown (visit ∷ []) ≡ visit_items answers shown visit
 unfolding visits_items
-items_one reasons shown visit = append-nil (visit_items reasons shown visit)
+items_one answers shown visit = append-nil (visit_items answers shown visit)
 
-items_none : (reasons : Subject → Reasons) (shown : Shown) → visits_items reasons shown [] ≡ []
+items_none : (answers : Subject → Answer) (shown : Shown) → visits_items answers shown [] ≡ []
 unfolding visits_items
-items_none reasons shown = refl
+items_none answers shown = refl
 
-tallied_append : (reasons : Subject → Reasons) (tally : Tally) (xs ys : List Visit)
-    → all_tallied reasons tally (xs ++ ys) ≡ all_tallied reasons (all_tallied reasons tally xs) ys
-tallied_append reasons tally [] ys = refl
-tallied_append reasons tally (x ∷ xs) ys = tallied_append reasons (tallied reasons tally x) xs ys
+tallied_append : (answers : Subject → Answer) (tally : Tally) (xs ys : List Visit)
+    → all_tallied answers tally (xs ++ ys) ≡ all_tallied answers (all_tallied answers tally xs) ys
+tallied_append answers tally [] ys = refl
+tallied_append answers tally (x ∷ xs) ys = tallied_append answers (tallied answers tally x) xs ys
 
-timely_append : (reasons : Subject → Reasons) (tally : Tally) (xs ys : List Visit) → AreTimely reasons tally xs
-    → AreTimely reasons (all_tallied reasons tally xs) ys → AreTimely reasons tally (xs ++ ys)
-timely_append reasons tally [] ys first second = second
-timely_append reasons tally (x ∷ xs) ys first second =
-    (first.0, timely_append reasons (tallied reasons tally x) xs ys first.1 second)
+timely_append : (answers : Subject → Answer) (tally : Tally) (xs ys : List Visit) → AreTimely answers tally xs
+    → AreTimely answers (all_tallied answers tally xs) ys → AreTimely answers tally (xs ++ ys)
+timely_append answers tally [] ys first second = second
+timely_append answers tally (x ∷ xs) ys first second =
+    (first.0, timely_append answers (tallied answers tally x) xs ys first.1 second)
 
 -- ---- an audit of which no finding is asked for
 
@@ -66,19 +66,19 @@ false_unless false not_true = refl
 pub not_more : (n : ℕ) → nat_lt n n ≡ false
 not_more n = false_unless (nat_lt n n) (λ is. let less : n < n = ltb-true n n is in omega (arith, less))
 
-quiet_append : (reasons : Subject → Reasons) (stopped : Bool) (tally : Tally) (xs ys : List Visit) → AreQuiet reasons false tally xs
-    → AreQuiet reasons stopped (all_tallied reasons tally xs) ys → AreQuiet reasons stopped tally (xs ++ ys)
-quiet_append reasons stopped tally [] ys first second = second
-quiet_append reasons false tally (x ∷ xs) ys first second =
-    (first.0, quiet_append reasons false (tallied reasons tally x) xs ys first.1 second)
-quiet_append reasons true tally (x ∷ xs) ys first second =
-    inl (first.0, quiet_append reasons true (tallied reasons tally x) xs ys first.1 second)
+quiet_append : (answers : Subject → Answer) (stopped : Bool) (tally : Tally) (xs ys : List Visit) → AreQuiet answers false tally xs
+    → AreQuiet answers stopped (all_tallied answers tally xs) ys → AreQuiet answers stopped tally (xs ++ ys)
+quiet_append answers stopped tally [] ys first second = second
+quiet_append answers false tally (x ∷ xs) ys first second =
+    (first.0, quiet_append answers false (tallied answers tally x) xs ys first.1 second)
+quiet_append answers true tally (x ∷ xs) ys first second =
+    inl (first.0, quiet_append answers true (tallied answers tally x) xs ys first.1 second)
 
 -- the same if the audit stopped
-pub quiet_stopped : (reasons : Subject → Reasons) (tally : Tally) (visits : List Visit) → AreQuiet reasons false tally visits
-    → AreQuiet reasons true tally visits
-quiet_stopped reasons tally [] quiet = tt
-quiet_stopped reasons tally (x ∷ xs) quiet = inl (quiet.0, quiet_stopped reasons (tallied reasons tally x) xs quiet.1)
+pub quiet_stopped : (answers : Subject → Answer) (tally : Tally) (visits : List Visit) → AreQuiet answers false tally visits
+    → AreQuiet answers true tally visits
+quiet_stopped answers tally [] quiet = tt
+quiet_stopped answers tally (x ∷ xs) quiet = inl (quiet.0, quiet_stopped answers (tallied answers tally x) xs quiet.1)
 
 -- ---- since a directory that is named was entered
 
@@ -148,52 +148,52 @@ stopped_by before all items causes.VersionFull fault now is at =
 stopped_by before all items causes.TextTooLong fault now is at =
     record { said = at.said; later = Stopped fault ∷ at.later; parts = is ∙ at.parts; has_said = at.has_said }
 
-not_tallied : (reasons : Subject → Reasons) (visits : List Visit) (cause : Cause) (old new : Tally)
-    → IsTallied reasons visits (Some (stop_for cause)) old new
-not_tallied reasons visits (causes.Output count) old new = tt
-not_tallied reasons visits causes.NoMemory old new = tt
-not_tallied reasons visits (causes.File f) old new = tt
-not_tallied reasons visits (causes.Krl f) old new = tt
-not_tallied reasons visits (causes.Key f) old new = tt
-not_tallied reasons visits (causes.Private f) old new = tt
-not_tallied reasons visits (causes.Spec f) old new = tt
-not_tallied reasons visits causes.VersionFull old new = tt
-not_tallied reasons visits causes.TextTooLong old new = tt
+not_tallied : (answers : Subject → Answer) (visits : List Visit) (cause : Cause) (old new : Tally)
+    → IsTallied answers visits (Some (stop_for cause)) old new
+not_tallied answers visits (causes.Output count) old new = tt
+not_tallied answers visits causes.NoMemory old new = tt
+not_tallied answers visits (causes.File f) old new = tt
+not_tallied answers visits (causes.Krl f) old new = tt
+not_tallied answers visits (causes.Key f) old new = tt
+not_tallied answers visits (causes.Private f) old new = tt
+not_tallied answers visits (causes.Spec f) old new = tt
+not_tallied answers visits causes.VersionFull old new = tt
+not_tallied answers visits causes.TextTooLong old new = tt
 
 -- the items of one visit, after what was said
-item_said : (reasons : Subject → Reasons) (shown : Shown) (visit : Visit) (said : List Item)
-    → said ++ visits_items reasons shown (visit ∷ []) ≡ said ++ visit_items reasons shown visit
-item_said reasons shown visit said = ap (λ (items : List Item). said ++ items) (items_one reasons shown visit)
+item_said : (answers : Subject → Answer) (shown : Shown) (visit : Visit) (said : List Item)
+    → said ++ visits_items answers shown (visit ∷ []) ≡ said ++ visit_items answers shown visit
+item_said answers shown visit said = ap (λ (items : List Item). said ++ items) (items_one answers shown visit)
 
 -- the audit was stopped within what was met
-pub met_stopped : (reasons : Subject → Reasons) (visit : Visit) (fault : RunFault) (old new : State)
-    → Carries {A = Unit {0}} (visit_items reasons old.judge.shown visit) (Err fault) old.printer new.printer → IsTimely old.tally visit
-    → Audits reasons (visit ∷ []) (Some (stop_for fault.cause)) old new
-met_stopped reasons visit fault old new carries timely = record {
+pub met_stopped : (answers : Subject → Answer) (visit : Visit) (fault : RunFault) (old new : State)
+    → Carries {A = Unit {0}} (visit_items answers old.judge.shown visit) (Err fault) old.printer new.printer → IsTimely old.tally visit
+    → Audits answers (visit ∷ []) (Some (stop_for fault.cause)) old new
+met_stopped answers visit fault old new carries timely = record {
   says = λ before said has.
-      stopped_by before (said ++ visits_items reasons old.judge.shown (visit ∷ [])) (said ++ visit_items reasons old.judge.shown visit)
-      fault.cause fault new (item_said reasons old.judge.shown visit said) (carries.says before said has);
-  tallies = not_tallied reasons (visit ∷ []) fault.cause old.tally new.tally;
+      stopped_by before (said ++ visits_items answers old.judge.shown (visit ∷ [])) (said ++ visit_items answers old.judge.shown visit)
+      fault.cause fault new (item_said answers old.judge.shown visit said) (carries.says before said has);
+  tallies = not_tallied answers (visit ∷ []) fault.cause old.tally new.tally;
   timely = (timely, tt);
   quiet = λ silent. inr refl;
   writer = carries.writer;
 }
 
-said_all : (reasons : Subject → Reasons) (visit : Visit) (value : Unit {0}) (old new : State)
-    → Carries {A = Unit {0}} (visit_items reasons old.judge.shown visit) (Ok value) old.printer new.printer
+said_all : (answers : Subject → Answer) (visit : Visit) (value : Unit {0}) (old new : State)
+    → Carries {A = Unit {0}} (visit_items answers old.judge.shown visit) (Ok value) old.printer new.printer
     → (before : Option (List ℕ)) (said : List Item) → HasSaid before said old.printer
-    → HasSaid before (said ++ visits_items reasons old.judge.shown (visit ∷ [])) new.printer
-said_all reasons visit value old new carries before said has =
-    subst (λ (items : List Item). HasSaid before items new.printer) (sym (item_said reasons old.judge.shown visit said))
+    → HasSaid before (said ++ visits_items answers old.judge.shown (visit ∷ [])) new.printer
+said_all answers visit value old new carries before said has =
+    subst (λ (items : List Item). HasSaid before items new.printer) (sym (item_said answers old.judge.shown visit said))
     (carries.says before said has)
 
 -- all of it was met
-pub met : (reasons : Subject → Reasons) (visit : Visit) (value : Unit {0}) (old new : State)
-    → Carries {A = Unit {0}} (visit_items reasons old.judge.shown visit) (Ok value) old.printer new.printer → IsTimely old.tally visit
-    → new.tally ≡ tallied reasons old.tally visit
-    → (old.judge.shown.revoked ≡ false → reveals reasons old.tally visit ≡ false) → Audits reasons (visit ∷ []) None old new
-met reasons visit value old new carries timely tallies quiet = record {
-  says = said_all reasons visit value old new carries;
+pub met : (answers : Subject → Answer) (visit : Visit) (value : Unit {0}) (old new : State)
+    → Carries {A = Unit {0}} (visit_items answers old.judge.shown visit) (Ok value) old.printer new.printer → IsTimely old.tally visit
+    → new.tally ≡ tallied answers old.tally visit
+    → (old.judge.shown.revoked ≡ false → reveals answers old.tally visit ≡ false) → Audits answers (visit ∷ []) None old new
+met answers visit value old new carries timely tallies quiet = record {
+  says = said_all answers visit value old new carries;
   tallies = tallies;
   timely = (timely, tt);
   quiet = λ silent. (quiet silent, tt);
@@ -201,12 +201,12 @@ met reasons visit value old new carries timely tallies quiet = record {
 }
 
 -- its key is revoked, and no finding is asked for
-pub met_revoked : (reasons : Subject → Reasons) (visit : Visit) (value : Unit {0}) (old new : State)
-    → Carries {A = Unit {0}} (visit_items reasons old.judge.shown visit) (Ok value) old.printer new.printer → IsTimely old.tally visit
-    → new.tally ≡ tallied reasons old.tally visit → new.judge.shown.revoked ≡ false → 0 < new.tally.counts.revoked
-    → Audits reasons (visit ∷ []) (Some stops.Revoked) old new
-met_revoked reasons visit value old new carries timely tallies quiet some = record {
-  says = λ before said has. (said_all reasons visit value old new carries before said has, (quiet, some));
+pub met_revoked : (answers : Subject → Answer) (visit : Visit) (value : Unit {0}) (old new : State)
+    → Carries {A = Unit {0}} (visit_items answers old.judge.shown visit) (Ok value) old.printer new.printer → IsTimely old.tally visit
+    → new.tally ≡ tallied answers old.tally visit → new.judge.shown.revoked ≡ false → 0 < new.tally.counts.revoked
+    → Audits answers (visit ∷ []) (Some stops.Revoked) old new
+met_revoked answers visit value old new carries timely tallies quiet some = record {
+  says = λ before said has. (said_all answers visit value old new carries before said has, (quiet, some));
   tallies = tallies;
   timely = (timely, tt);
   quiet = λ silent. inr refl;
@@ -218,11 +218,11 @@ pub same_tally : (c c' : Counts) (f f' : Files) → c ≡ c' → f ≡ f'
 same_tally c c' f f' counts files = rw (counts, files) refl
 
 -- a file was counted
-pub file_tallied : (reasons : Subject → Reasons) (key : Option (List ℕ)) (name : List ℕ) (content : Result (List ℕ) Refusal)
-    (old new : Tally) (kept : Files) → new.counts ≡ all_counted old.counts (file_kinds reasons name content)
+pub file_tallied : (answers : Subject → Answer) (key : Option (List ℕ)) (name : List ℕ) (content : Result (List ℕ) Refusal)
+    (old new : Tally) (kept : Files) → new.counts ≡ all_counted old.counts (file_kinds answers name content)
     → kept ≡ with_key key old.files → new.files ≡ with_audited (nat_lt old.counts.revoked new.counts.revoked) kept
-    → new ≡ tallied reasons old (Audited key name content)
-file_tallied reasons key name content old new kept counts keeps files =
+    → new ≡ tallied answers old (Audited key name content)
+file_tallied answers key name content old new kept counts keeps files =
     same_tally new.counts _ new.files _ counts
     (files ∙ ap (λ (f : Files). with_audited (nat_lt old.counts.revoked new.counts.revoked) f) keeps
     ∙ ap (λ (c : Counts). with_audited (nat_lt old.counts.revoked c.revoked) (with_key key old.files)) counts)
@@ -233,13 +233,13 @@ key_timely tally None name content new = tt
 key_timely tally (Some key) name content new = new
 
 -- the same of a file
-pub file_stopped : (reasons : Subject → Reasons) (key : Option (List ℕ)) (name : List ℕ) (content : Result (List ℕ) Refusal)
+pub file_stopped : (answers : Subject → Answer) (key : Option (List ℕ)) (name : List ℕ) (content : Result (List ℕ) Refusal)
     (fault : RunFault) (old new : State)
-    → ToldFile reasons old.judge.shown name content (Err fault) old.printer new.printer old.tally.counts new.tally.counts
+    → ToldFile answers old.judge.shown name content (Err fault) old.printer new.printer old.tally.counts new.tally.counts
     → IfSome key (λ new. is_seen old.tally.files new ≡ false)
-    → Audits reasons (Audited key name content ∷ []) (Some (stop_for fault.cause)) old new
-file_stopped reasons key name content fault old new told is_new =
-    met_stopped reasons (Audited key name content) fault old new told.carries (key_timely old.tally key name content is_new)
+    → Audits answers (Audited key name content ∷ []) (Some (stop_for fault.cause)) old new
+file_stopped answers key name content fault old new told is_new =
+    met_stopped answers (Audited key name content) fault old new told.carries (key_timely old.tally key name content is_new)
 
 not_revoked : (ends more revoked : Bool) → ends ≡ more && not revoked → ends ≡ false → revoked ≡ false → more ≡ false
 not_revoked ends true true is so silent = absurd (cc)
@@ -247,16 +247,16 @@ not_revoked true true false is so silent = absurd (cc)
 not_revoked false true false is so silent = absurd (cc)
 not_revoked ends false revoked is so silent = refl
 
-pub file_met : (reasons : Subject → Reasons) (key : Option (List ℕ)) (name : List ℕ) (content : Result (List ℕ) Refusal)
+pub file_met : (answers : Subject → Answer) (key : Option (List ℕ)) (name : List ℕ) (content : Result (List ℕ) Refusal)
     (value : Unit {0}) (old new : State) (kept : Files) (ends : Bool) → new.judge ≡ old.judge
-    → ToldFile reasons old.judge.shown name content (Ok value) old.printer new.printer old.tally.counts new.tally.counts
+    → ToldFile answers old.judge.shown name content (Ok value) old.printer new.printer old.tally.counts new.tally.counts
     → IfSome key (λ new. is_seen old.tally.files new ≡ false) → kept ≡ with_key key old.tally.files
     → new.tally.files ≡ with_audited (nat_lt old.tally.counts.revoked new.tally.counts.revoked) kept
     → ends ≡ nat_lt old.tally.counts.revoked new.tally.counts.revoked && not new.judge.shown.revoked → ends ≡ false
-    → Audits reasons (Audited key name content ∷ []) None old new
-file_met reasons key name content value old new kept ends judge told is_new keeps files is so =
-    met reasons (Audited key name content) value old new told.carries (key_timely old.tally key name content is_new)
-    (file_tallied reasons key name content old.tally new.tally kept told.counts keeps files)
+    → Audits answers (Audited key name content ∷ []) None old new
+file_met answers key name content value old new kept ends judge told is_new keeps files is so =
+    met answers (Audited key name content) value old new told.carries (key_timely old.tally key name content is_new)
+    (file_tallied answers key name content old.tally new.tally kept told.counts keeps files)
     (λ silent.
     let more = nat_lt old.tally.counts.revoked new.tally.counts.revoked in
     let none : more ≡ false =
@@ -278,17 +278,17 @@ ends_some false some revoked is so = absurd (cc)
 some_more : (a b : ℕ) → nat_lt a b ≡ true → 0 < b
 some_more a b is = let less : a < b = ltb-true a b is in omega (arith, less)
 
-pub file_revoked : (reasons : Subject → Reasons) (key : Option (List ℕ)) (name : List ℕ) (content : Result (List ℕ) Refusal)
+pub file_revoked : (answers : Subject → Answer) (key : Option (List ℕ)) (name : List ℕ) (content : Result (List ℕ) Refusal)
     (value : Unit {0}) (old new : State) (kept : Files) (ends : Bool)
-    → ToldFile reasons old.judge.shown name content (Ok value) old.printer new.printer old.tally.counts new.tally.counts
+    → ToldFile answers old.judge.shown name content (Ok value) old.printer new.printer old.tally.counts new.tally.counts
     → IfSome key (λ new. is_seen old.tally.files new ≡ false) → kept ≡ with_key key old.tally.files
     → new.tally.files ≡ with_audited (nat_lt old.tally.counts.revoked new.tally.counts.revoked) kept
     → ends ≡ nat_lt old.tally.counts.revoked new.tally.counts.revoked && not new.judge.shown.revoked → ends ≡ true
-    → Audits reasons (Audited key name content ∷ []) (Some stops.Revoked) old new
-file_revoked reasons key name content value old new kept ends told is_new keeps files is so =
+    → Audits answers (Audited key name content ∷ []) (Some stops.Revoked) old new
+file_revoked answers key name content value old new kept ends told is_new keeps files is so =
     let more = nat_lt old.tally.counts.revoked new.tally.counts.revoked in
-    met_revoked reasons (Audited key name content) value old new told.carries (key_timely old.tally key name content is_new)
-    (file_tallied reasons key name content old.tally new.tally kept told.counts keeps files)
+    met_revoked answers (Audited key name content) value old new told.carries (key_timely old.tally key name content is_new)
+    (file_tallied answers key name content old.tally new.tally kept told.counts keeps files)
     (ends_quiet ends more new.judge.shown.revoked is so)
     (some_more old.tally.counts.revoked new.tally.counts.revoked (ends_some ends more new.judge.shown.revoked is so))
 
@@ -308,10 +308,10 @@ pub skipped_meets : (why : Skip) (count : ℕ) (old new : State) → new.judge �
 skipped_meets why count old new judge printer tally gave passed = record {
   audits = record {
     judge = judge;
-    audits = λ reasons judges. record {
+    audits = λ answers judges. record {
       says = λ before said has.
           let kept : HasSaid before said new.printer = subst (λ (p : Printer). HasSaid before said p) (sym printer) has in
-          let none = items_one reasons old.judge.shown (Skipped why count) in
+          let none = items_one answers old.judge.shown (Skipped why count) in
           subst (λ (items : List Item). HasSaid before items new.printer)
           (sym (ap (λ (items : List Item). said ++ items) none ∙ append-nil said)) kept;
       tallies = tally;
@@ -329,10 +329,10 @@ pub nothing_met : (now : State) → Meets [] None now now
 nothing_met now = record {
   audits = record {
     judge = refl;
-    audits = λ reasons judges. record {
+    audits = λ answers judges. record {
       says = λ before said has.
           subst (λ (items : List Item). HasSaid before items now.printer)
-          (sym (ap (λ (items : List Item). said ++ items) (items_none reasons now.judge.shown) ∙ append-nil said)) has;
+          (sym (ap (λ (items : List Item). said ++ items) (items_none answers now.judge.shown) ∙ append-nil said)) has;
       tallies = refl;
       timely = tt;
       quiet = λ silent. tt;
@@ -346,11 +346,11 @@ pub nothing_begun : (now : State) → Meets [] (Some stops.NoMemory) now now
 nothing_begun now = record {
   audits = record {
     judge = refl;
-    audits = λ reasons judges. record {
+    audits = λ answers judges. record {
       says = λ before said has. record {
         said = said;
         later = [];
-        parts = ap (λ (items : List Item). said ++ items) (items_none reasons now.judge.shown);
+        parts = ap (λ (items : List Item). said ++ items) (items_none answers now.judge.shown);
         has_said = has;
       };
       tallies = tt;
@@ -362,35 +362,35 @@ nothing_begun now = record {
   since = tt;
 }
 
-tallied_then : (reasons : Subject → Reasons) (xs ys : List Visit) (stop : Option Stop) (old mid new : Tally)
-    → mid ≡ all_tallied reasons old xs → IsTallied reasons ys stop mid new → IsTallied reasons (xs ++ ys) stop old new
-tallied_then reasons xs ys None old mid new first second =
-    second ∙ ap (λ (t : Tally). all_tallied reasons t ys) first ∙ sym (tallied_append reasons old xs ys)
-tallied_then reasons xs ys (Some stops.Revoked) old mid new first second =
-    second ∙ ap (λ (t : Tally). all_tallied reasons t ys) first ∙ sym (tallied_append reasons old xs ys)
-tallied_then reasons xs ys (Some stops.NoMemory) old mid new first second = tt
-tallied_then reasons xs ys (Some (stops.Lost count)) old mid new first second = tt
+tallied_then : (answers : Subject → Answer) (xs ys : List Visit) (stop : Option Stop) (old mid new : Tally)
+    → mid ≡ all_tallied answers old xs → IsTallied answers ys stop mid new → IsTallied answers (xs ++ ys) stop old new
+tallied_then answers xs ys None old mid new first second =
+    second ∙ ap (λ (t : Tally). all_tallied answers t ys) first ∙ sym (tallied_append answers old xs ys)
+tallied_then answers xs ys (Some stops.Revoked) old mid new first second =
+    second ∙ ap (λ (t : Tally). all_tallied answers t ys) first ∙ sym (tallied_append answers old xs ys)
+tallied_then answers xs ys (Some stops.NoMemory) old mid new first second = tt
+tallied_then answers xs ys (Some (stops.Lost count)) old mid new first second = tt
 
-audits_then : (reasons : Subject → Reasons) (xs ys : List Visit) (stop : Option Stop) (old mid new : State) → mid.judge ≡ old.judge
-    → Audits reasons xs None old mid → Audits reasons ys stop mid new → Audits reasons (xs ++ ys) stop old new
-audits_then reasons xs ys stop old mid new judge first second = record {
+audits_then : (answers : Subject → Answer) (xs ys : List Visit) (stop : Option Stop) (old mid new : State) → mid.judge ≡ old.judge
+    → Audits answers xs None old mid → Audits answers ys stop mid new → Audits answers (xs ++ ys) stop old new
+audits_then answers xs ys stop old mid new judge first second = record {
   says = λ before said has.
-      let there = second.says before (said ++ visits_items reasons old.judge.shown xs) (first.says before said has) in
-      let same : visits_items reasons mid.judge.shown ys ≡ visits_items reasons old.judge.shown ys =
-      ap (λ (j : Judge). visits_items reasons j.shown ys) judge in
-      let all : (said ++ visits_items reasons old.judge.shown xs) ++ visits_items reasons mid.judge.shown ys
-      ≡ said ++ visits_items reasons old.judge.shown (xs ++ ys) =
+      let there = second.says before (said ++ visits_items answers old.judge.shown xs) (first.says before said has) in
+      let same : visits_items answers mid.judge.shown ys ≡ visits_items answers old.judge.shown ys =
+      ap (λ (j : Judge). visits_items answers j.shown ys) judge in
+      let all : (said ++ visits_items answers old.judge.shown xs) ++ visits_items answers mid.judge.shown ys
+      ≡ said ++ visits_items answers old.judge.shown (xs ++ ys) =
       append_assoc said _ _
-      ∙ ap (λ (items : List Item). said ++ (visits_items reasons old.judge.shown xs ++ items)) same
-      ∙ ap (λ (items : List Item). said ++ items) (sym (items_append reasons old.judge.shown xs ys)) in
+      ∙ ap (λ (items : List Item). said ++ (visits_items answers old.judge.shown xs ++ items)) same
+      ∙ ap (λ (items : List Item). said ++ items) (sym (items_append answers old.judge.shown xs ys)) in
       subst (λ (items : List Item). Says before items stop new) all there;
-  tallies = tallied_then reasons xs ys stop old.tally mid.tally new.tally first.tallies second.tallies;
-  timely = timely_append reasons old.tally xs ys first.timely
-      (subst (λ (t : Tally). AreTimely reasons t ys) first.tallies second.timely);
+  tallies = tallied_then answers xs ys stop old.tally mid.tally new.tally first.tallies second.tallies;
+  timely = timely_append answers old.tally xs ys first.timely
+      (subst (λ (t : Tally). AreTimely answers t ys) first.tallies second.timely);
   quiet = λ silent.
       let also : mid.judge.shown.revoked ≡ false = ap (λ (j : Judge). j.shown.revoked) judge ∙ silent in
-      quiet_append reasons (is_some stop) old.tally xs ys (first.quiet silent)
-      (subst (λ (t : Tally). AreQuiet reasons (is_some stop) t ys) first.tallies (second.quiet also));
+      quiet_append answers (is_some stop) old.tally xs ys (first.quiet silent)
+      (subst (λ (t : Tally). AreQuiet answers (is_some stop) t ys) first.tallies (second.quiet also));
   writer = second.writer ∙ first.writer;
 }
 
@@ -398,9 +398,9 @@ pub by_then : (xs ys : List Visit) (stop : Option Stop) (old mid new : State) �
     → AuditsBy ys stop mid new → AuditsBy (xs ++ ys) stop old new
 by_then xs ys stop old mid new first second = record {
   judge = second.judge ∙ first.judge;
-  audits = λ reasons judges.
-      let also : JudgesAs mid.judge reasons = subst (λ (j : Judge). JudgesAs j reasons) (sym first.judge) judges in
-      audits_then reasons xs ys stop old mid new first.judge (first.audits reasons judges) (second.audits reasons also);
+  audits = λ answers judges.
+      let also : JudgesAs mid.judge answers = subst (λ (j : Judge). JudgesAs j answers) (sym first.judge) judges in
+      audits_then answers xs ys stop old mid new first.judge (first.audits answers judges) (second.audits answers also);
 }
 
 pub meets_then : (xs ys : List Visit) (stop : Option Stop) (old mid new : State) → Meets xs None old mid

@@ -7,7 +7,7 @@ use Rattle.run_output.specs.Printer.{Printer}
 use Rattle.run_output.specs.Run.{Item}
 use Rattle.run_output.proofs.RunParts.{carries_then}
 use Rattle.krl_types.specs.Subject.{Subject}
-use Rattle.krl_entries.specs.declared.reasons.Reasons.{Reasons}
+use Rattle.audit_text.specs.Answer.{Answer}
 use Rattle.krl_audit.specs.Audit.{ToldFile}
 use Rattle.krl_audit.specs.declared.counts.Counts.{Counts}
 use Rattle.krl_audit.specs.declared.judge.Shown.{Shown}
@@ -19,11 +19,11 @@ carried_and_sent items value result old mid new first second =
     subst (λ (all : List Item). Carries {A = Unit {0}} all result old new) (append-nil items)
     (carries_then items [] value result old mid new first second)
 
-pub told_and_sent : (reasons : Subject → Reasons) (shown : Shown) (name : List ℕ) (content : Result (List ℕ) Refusal) (value : Unit {0})
+pub told_and_sent : (answers : Subject → Answer) (shown : Shown) (name : List ℕ) (content : Result (List ℕ) Refusal) (value : Unit {0})
     (result : Result (Unit {0}) RunFault) (old mid new : Printer) (before after : Counts)
-    → ToldFile reasons shown name content (Ok value) old mid before after → Carries {A = Unit {0}} [] result mid new
-    → ToldFile reasons shown name content result old new before after
-told_and_sent reasons shown name content value (Ok done) old mid new before after told sent =
+    → ToldFile answers shown name content (Ok value) old mid before after → Carries {A = Unit {0}} [] result mid new
+    → ToldFile answers shown name content result old new before after
+told_and_sent answers shown name content value (Ok done) old mid new before after told sent =
     record { carries = carried_and_sent _ value (Ok done) old mid new told.carries sent; counts = told.counts }
-told_and_sent reasons shown name content value (Err stop) old mid new before after told sent =
+told_and_sent answers shown name content value (Err stop) old mid new before after told sent =
     record { carries = carried_and_sent _ value (Err stop) old mid new told.carries sent; counts = tt }

@@ -9,9 +9,9 @@ use Rattle.run_output.specs.Done.{Ends}
 use Rattle.run_output.specs.Printer.{HasSaid, Printer}
 use Rattle.run_output.specs.Run.{Answered, Item, Passed, Stopped, outcome_of}
 use Rattle.krl_types.specs.Subject.{Subject}
-use Rattle.krl_entries.specs.declared.reasons.Reasons.{Reasons}
-use Rattle.krl_audit.specs.Audit.{EndsAudit, JudgesAs, reasons_but}
-use Rattle.krl_audit.proofs.Canaries.{judges_as_meant}
+use Rattle.audit_text.specs.Answer.{Answer}
+use Rattle.krl_audit.specs.Audit.{EndsAudit, IsUsable, JudgesAs, answers_but}
+use Rattle.krl_audit.proofs.Canaries.{answers_as_meant, answers_of}
 use Rattle.audit_run.specs.declared.summary.Summary.{Summary}
 use Rattle.krl_audit.specs.declared.counts.Counts.{Counts}
 use Rattle.krl_audit.specs.declared.judge.Judge.{Judge}
@@ -27,29 +27,33 @@ use Rattle.audit_run.specs.declared.stop.Stop.{Stop}
 use Rattle.audit_run.specs.declared.stop.Stop.TheVariants as stops
 
 -- An audit came to an end: what it printed, and how far it came.
-abbrev pub Ended : (Fact → Type 0) → Order → Queried → Readers → (Subject → Reasons) → Option (List ℕ)
+abbrev pub Ended : (Fact → Type 0) → Order → Queried → Readers → (Subject → Answer) → Option (List ℕ)
     → Option RunFault → State → State → Type 0
-Ended Knows order queried readers reasons before stop old new =
+Ended Knows order queried readers answers before stop old new =
     (run : List Item)
-    × (IsAudit Knows order queried readers reasons old.tally new.tally stop run
+    × (IsAudit Knows order queried readers answers old.tally new.tally stop run
     × (Reaches before run stop new.printer × (new.printer.writer ≡ old.printer.writer)))
 
+-- some answers are those of the list and the texts
+pub some_answers : (judge : Judge) → IsUsable judge.texts → (answers : Subject → Answer) × JudgesAs judge answers
+some_answers judge usable = answers_of judge.canaries judge.list.now judge.texts usable
+
 -- what was printed, in the form that the command asks for
-said_so : (order : Order) (reasons : Subject → Reasons) (visits : List Visit) (stop : Option Stop) (before : Option (List ℕ)) (old new : State)
-    → old.judge.shown ≡ order.shown → Audits reasons visits stop old new → HasSaid before [] old.printer
-    → Says before (visits_items reasons order.shown visits) stop new
-said_so order reasons visits stop before old new shown audits said =
-    subst (λ (s : Shown). Says before (visits_items reasons s visits) stop new) shown (audits.says before [] said)
+said_so : (order : Order) (answers : Subject → Answer) (visits : List Visit) (stop : Option Stop) (before : Option (List ℕ)) (old new : State)
+    → old.judge.shown ≡ order.shown → Audits answers visits stop old new → HasSaid before [] old.printer
+    → Says before (visits_items answers order.shown visits) stop new
+said_so order answers visits stop before old new shown audits said =
+    subst (λ (s : Shown). Says before (visits_items answers s visits) stop new) shown (audits.says before [] said)
 
 pub ended_all : (Knows : Fact → Type 0) (order : Order) (queried : Queried) (readers : Readers)
-    (reasons : Subject → Reasons) (before : Option (List ℕ)) (visits : List Visit) (result : Result (Unit {0}) RunFault) (old mid new : State)
-    → AreGiven Knows order.every_file true readers order.paths.now visits → Audits reasons visits None old mid
+    (answers : Subject → Answer) (before : Option (List ℕ)) (visits : List Visit) (result : Result (Unit {0}) RunFault) (old mid new : State)
+    → AreGiven Knows order.every_file true readers order.paths.now visits → Audits answers visits None old mid
     → Carries (last_items order.list.now queried mid.tally) result mid.printer new.printer → new.tally ≡ mid.tally
     → old.judge.shown ≡ order.shown → HasSaid before [] old.printer
-    → Ended Knows order queried readers reasons before (result_err result) old new
-ended_all Knows order queried readers reasons before visits result old mid new given audits carries same shown said =
-    let items = visits_items reasons order.shown visits in
-    let has : HasSaid before items mid.printer = said_so order reasons visits None before old mid shown audits said in
+    → Ended Knows order queried readers answers before (result_err result) old new
+ended_all Knows order queried readers answers before visits result old mid new given audits carries same shown said =
+    let items = visits_items answers order.shown visits in
+    let has : HasSaid before items mid.printer = said_so order answers visits None before old mid shown audits said in
     let last : Carries (last_items order.list.now queried new.tally) result mid.printer new.printer =
     subst (λ (t : Tally). Carries (last_items order.list.now queried t) result mid.printer new.printer) (sym same) carries in (
       items ++ last_items order.list.now queried new.tally,
@@ -72,15 +76,15 @@ some_is x is = cc
 
 -- an audit was stopped
 pub ended_stopped : (Knows : Fact → Type 0) (order : Order) (queried : Queried) (readers : Readers)
-    (reasons : Subject → Reasons) (before : Option (List ℕ)) (visits : List Visit) (stop : Stop) (old new : State)
-    → AreGiven Knows order.every_file false readers order.paths.now visits → Audits reasons visits (Some stop) old new
+    (answers : Subject → Answer) (before : Option (List ℕ)) (visits : List Visit) (stop : Stop) (old new : State)
+    → AreGiven Knows order.every_file false readers order.paths.now visits → Audits answers visits (Some stop) old new
     → new.judge ≡ old.judge → old.judge.shown ≡ order.shown → HasSaid before [] old.printer
-    → Ended Knows order queried readers reasons before (stop_fault stop) old new
-ended_stopped Knows order queried readers reasons before visits stops.Revoked old new given audits judge shown said =
-    let at = said_so order reasons visits (Some stops.Revoked) before old new shown audits said in
+    → Ended Knows order queried readers answers before (stop_fault stop) old new
+ended_stopped Knows order queried readers answers before visits stops.Revoked old new given audits judge shown said =
+    let at = said_so order answers visits (Some stops.Revoked) before old new shown audits said in
     let kept : new.judge.shown ≡ order.shown = ap (λ (j : Judge). j.shown) judge ∙ shown in
     let quiet : order.shown.revoked ≡ false = subst (λ (s : Shown). s.revoked ≡ false) kept at.1.0 in (
-      visits_items reasons order.shown visits,
+      visits_items answers order.shown visits,
       (
         record {
           visits = visits;
@@ -94,8 +98,8 @@ ended_stopped Knows order queried readers reasons before visits stops.Revoked ol
         (at.0, audits.writer),
       ),
     )
-ended_stopped Knows order queried readers reasons before visits stops.NoMemory old new given audits judge shown said =
-    let front = said_so order reasons visits (Some stops.NoMemory) before old new shown audits said in (
+ended_stopped Knows order queried readers answers before visits stops.NoMemory old new given audits judge shown said =
+    let front = said_so order answers visits (Some stops.NoMemory) before old new shown audits said in (
       front.said ++ Passed (codes "memory") ∷ [],
       (
         record {
@@ -117,8 +121,8 @@ ended_stopped Knows order queried readers reasons before visits stops.NoMemory o
         ),
       ),
     )
-ended_stopped Knows order queried readers reasons before visits (stops.Lost count) old new given audits judge shown said = (
-  visits_items reasons order.shown visits,
+ended_stopped Knows order queried readers answers before visits (stops.Lost count) old new given audits judge shown said = (
+  visits_items answers order.shown visits,
   (
     record {
       visits = visits;
@@ -129,18 +133,18 @@ ended_stopped Knows order queried readers reasons before visits (stops.Lost coun
       is_run = lost count refl refl;
       tally_is = λ none. absurd (some_is _ none);
     },
-    (said_so order reasons visits (Some (stops.Lost count)) before old new shown audits said, audits.writer),
+    (said_so order answers visits (Some (stops.Lost count)) before old new shown audits said, audits.writer),
   ),
 )
 
 -- names could not be read to their end
 pub ended_unread : (Knows : Fact → Type 0) (order : Order) (queried : Queried) (readers : Readers)
-    (reasons : Subject → Reasons) (before : Option (List ℕ)) (visits : List Visit) (old new : State)
-    → AreUnread Knows order.every_file readers visits → Audits reasons visits None old new
+    (answers : Subject → Answer) (before : Option (List ℕ)) (visits : List Visit) (old new : State)
+    → AreUnread Knows order.every_file readers visits → Audits answers visits None old new
     → old.judge.shown ≡ order.shown → HasSaid before [] old.printer
-    → Ended Knows order queried readers reasons before (Some (names_fault order.names_from.now)) old new
-ended_unread Knows order queried readers reasons before visits old new unread audits shown said =
-    let items = visits_items reasons order.shown visits in
+    → Ended Knows order queried readers answers before (Some (names_fault order.names_from.now)) old new
+ended_unread Knows order queried readers answers before visits old new unread audits shown said =
+    let items = visits_items answers order.shown visits in
     let end = names_fault order.names_from.now in (
       items ++ Stopped end ∷ [],
       (
@@ -149,7 +153,7 @@ ended_unread Knows order queried readers reasons before visits old new unread au
           whole = false;
           given = in_names unread.left unread.given refl unread.before;
           timely = audits.timely;
-          quiet = λ silent. quiet_stopped reasons old.tally visits
+          quiet = λ silent. quiet_stopped answers old.tally visits
               (audits.quiet (ap (λ (s : Shown). s.revoked) shown ∙ silent));
           is_run = no_names unread refl refl refl;
           tally_is = λ none. absurd (some_is _ none);
@@ -159,7 +163,7 @@ ended_unread Knows order queried readers reasons before visits old new unread au
             said = items;
             later = [];
             parts = refl;
-            has_said = said_so order reasons visits None before old new shown audits said;
+            has_said = said_so order answers visits None before old new shown audits said;
           },
           audits.writer,
         ),
@@ -219,17 +223,17 @@ stop_is_kept (Some stop) run before taken mid failed status (Some fault) reaches
 
 -- ---- what the list and the canaries mean
 
--- An audit by each row of reasons that the list gives ends so by what it means.
+-- An audit by the answers that the list and the texts give ends so by what they mean.
 pub ends_as_meant : (Knows : Fact → Type 0) (order : Order) (queried : Queried) (readers : Readers) (before after : Option (List ℕ)) (failed : Bool)
     (summary : Option Summary) (status : ℕ) (fault : Option RunFault) (tally : Tally) → summary ≡ summary_unless fault (summary_of tally queried)
-    → ((reasons : Subject → Reasons) → JudgesAs (record { list = queried.list; canaries = order.canaries; shown = order.shown }) reasons
-    → (stop : Option RunFault) × (run : List Item) × (IsAudit Knows order queried readers reasons nothing_tallied tally stop run
+    → ((answers : Subject → Answer) → JudgesAs (record { list = queried.list; canaries = order.canaries; texts = order.texts; shown = order.shown }) answers
+    → (stop : Option RunFault) × (run : List Item) × (IsAudit Knows order queried readers answers nothing_tallied tally stop run
     × (EndsAudit run tally.counts before after failed status fault × (fault ≡ None → stop ≡ None))))
     → EndsAuditBy Knows order queried readers before after failed summary status fault
 ends_as_meant Knows order queried readers before after failed summary status fault tally summary_is ends = record {
   tally = tally;
   summary_is = summary_is;
-  ends = λ canaries are entries means.
-      ends (reasons_but canaries entries)
-      (judges_as_meant (record { list = queried.list; canaries = order.canaries; shown = order.shown }) canaries entries are means);
+  ends = λ canaries are entries means texts indexed.
+      ends (answers_but canaries entries texts)
+      (answers_as_meant order.canaries queried.list.now order.texts canaries entries texts are means indexed);
 }

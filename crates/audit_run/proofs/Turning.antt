@@ -115,8 +115,8 @@ pub since_begun : (visits : List Visit) (stop : Option Stop) (old new : State) (
     → AuditsBy visits stop (record old { since = since }) new → AuditsBy visits stop old new
 since_begun visits stop old new since by = record {
   judge = by.judge;
-  audits = λ reasons judges.
-      let was = by.audits reasons judges in
+  audits = λ answers judges.
+      let was = by.audits answers judges in
       record { says = was.says; tallies = was.tallies; timely = was.timely; quiet = was.quiet; writer = was.writer };
 }
 

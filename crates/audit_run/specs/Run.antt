@@ -13,8 +13,8 @@ use Rattle.run_output.specs.Run.{Item, Passed, Stopped, said_of}
 use Rattle.krl_types.specs.Entry.{Entry}
 use Rattle.krl_types.specs.Subject.{Subject}
 use Rattle.krl_entries.specs.Revocations.{Means}
-use Rattle.krl_entries.specs.declared.reasons.Reasons.{Reasons}
-use Rattle.krl_audit.specs.Audit.{EndsAudit, JudgesAs, MeanCanaries, reasons_but}
+use Rattle.audit_text.specs.Answer.{Answer}
+use Rattle.krl_audit.specs.Audit.{AreIndexed, EndsAudit, JudgesAs, MeanCanaries, answers_but}
 use Rattle.krl_audit.specs.Done.{done_object}
 use Rattle.audit_run.specs.declared.summary.Summary.{Summary}
 use Rattle.any_list.specs.List.{IsListFault, IsReadList, stated_by}
@@ -26,6 +26,7 @@ use Rattle.krl_audit.specs.declared.judge.Shown.{Shown}
 use Rattle.krl_openssh.specs.Comparable.{IsIncomparable}
 use Rattle.krl_openssh.specs.declared.authorities.Incomparable.{Incomparable}
 use Rattle.krl_format.specs.Krl.{SpelledSection, Spells}
+use Rattle.text_index.specs.NamingLines.{NamingLine}
 use Rattle.krl_format.specs.declared.header.Header.{Header}
 use Rattle.audit_run.specs.Fact.{Fact}
 use Rattle.audit_run.specs.Named.{AreNamed, IsBroken, IsOnNames}
@@ -137,30 +138,30 @@ pub data IsRunOf (Unread : Type 0) (order : Order) (items last : List Item) (who
       → run ≡ items ++ Stopped (names_fault order.names_from.now) ∷ []
       → IsRunOf Unread order items last whole tally stop run
 
--- An audit by these reasons meets this, with each file once, and prints it. Where no finding is
+-- An audit by these answers meets this, with each file once, and prints it. Where no finding is
 -- asked for, it ends at the first file with a revoked key.
 pub record IsAudit (Knows : Fact → Type 0) (order : Order) (queried : Queried)
-    (readers : Readers) (reasons : Subject → Reasons) (old tally : Tally)
+    (readers : Readers) (answers : Subject → Answer) (old tally : Tally)
     (stop : Option RunFault) (run : List Item) : Type 0 where
   pub visits : List Visit
   pub whole : Bool
   pub given : AreGiven Knows order.every_file whole readers order.paths.now visits
-  pub timely : AreTimely reasons old visits
+  pub timely : AreTimely answers old visits
   pub quiet : order.shown.revoked ≡ false
-      → AreQuiet reasons (not whole) old visits
+      → AreQuiet answers (not whole) old visits
   pub is_run : IsRunOf (AreUnread Knows order.every_file readers visits) order
-      (visits_items reasons order.shown visits)
+      (visits_items answers order.shown visits)
       (last_items order.list.now queried tally) whole tally stop run
-  pub tally_is : stop ≡ None → tally ≡ all_tallied reasons old visits
+  pub tally_is : stop ≡ None → tally ≡ all_tallied answers old visits
 
 -- All was audited after nothing was printed, or the audit was stopped.
 abbrev pub AuditsAll : (Fact → Type 0) → Order → Queried → Readers → Option RunFault → State
     → State → Type 0
 AuditsAll Knows order queried readers stop old new =
-    (reasons : Subject → Reasons) (before : Option (List ℕ)) → JudgesAs old.judge reasons
+    (answers : Subject → Answer) (before : Option (List ℕ)) → JudgesAs old.judge answers
     → old.judge.shown ≡ order.shown → HasSaid before [] old.printer
     → (run : List Item)
-    × (IsAudit Knows order queried readers reasons old.tally new.tally stop run
+    × (IsAudit Knows order queried readers answers old.tally new.tally stop run
     × (Reaches before run stop new.printer × (new.printer.writer ≡ old.printer.writer)))
 
 abbrev pub summary_of : Tally → Queried → Summary
@@ -176,8 +177,8 @@ abbrev pub summary_unless : Option RunFault → Summary → Option Summary
 summary_unless None summary = Some summary
 summary_unless (Some fault) summary = None
 
--- The end of an audit by what the list and the keys of canaries mean. One that was stopped has a
--- fault, and no summary.
+-- The end of an audit by what the list, the keys of canaries and the texts mean. One that was
+-- stopped has a fault, and no summary.
 pub record EndsAuditBy (Knows : Fact → Type 0) (order : Order) (queried : Queried)
     (readers : Readers) (before after : Option (List ℕ)) (failed : Bool)
     (summary : Option Summary) (status : ℕ) (fault : Option RunFault) : Type 0 where
@@ -185,9 +186,10 @@ pub record EndsAuditBy (Knows : Fact → Type 0) (order : Order) (queried : Quer
   pub summary_is : summary ≡ summary_unless fault (summary_of tally queried)
   pub ends : (canaries : Option (List Entry)) → MeanCanaries order.canaries canaries
       → (entries : List Entry) → Means queried.list.now entries
+      → (texts : Option (List NamingLine)) → AreIndexed order.texts texts
       → (stop : Option RunFault) × (run : List Item)
-      × (IsAudit Knows order queried readers (reasons_but canaries entries) nothing_tallied tally
-      stop run
+      × (IsAudit Knows order queried readers (answers_but canaries entries texts) nothing_tallied
+      tally stop run
       × (EndsAudit run tally.counts before after failed status fault
       × (fault ≡ None → stop ≡ None)))
 

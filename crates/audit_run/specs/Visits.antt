@@ -15,7 +15,7 @@ use Rattle.run_output.specs.Carries.{IsLost}
 use Rattle.run_output.specs.Printer.{HasSaid, Printer}
 use Rattle.run_output.specs.Run.{Item}
 use Rattle.krl_types.specs.Subject.{Subject}
-use Rattle.krl_entries.specs.declared.reasons.Reasons.{Reasons}
+use Rattle.audit_text.specs.Answer.{Answer}
 use Rattle.krl_audit.specs.Audit.{JudgesAs, file_items, file_kinds, said_if}
 use Rattle.krl_audit.specs.Counts.{all_counted, one_more}
 use Rattle.audit_text.specs.Same.{same_said}
@@ -49,13 +49,13 @@ abbrev pub same_items : Shown → (told : Bool) → List ℕ → List Item
 same_items shown true name = said_if shown.revoked name (same_said shown.format name) ∷ []
 same_items shown false name = []
 
-abbrev pub visit_items : (Subject → Reasons) → Shown → Visit → List Item
-visit_items reasons shown (Audited key name content) = file_items reasons shown name content
-visit_items reasons shown (Same told key name) = same_items shown told name
-visit_items reasons shown (Skipped why count) = []
+abbrev pub visit_items : (Subject → Answer) → Shown → Visit → List Item
+visit_items answers shown (Audited key name content) = file_items answers shown name content
+visit_items answers shown (Same told key name) = same_items shown told name
+visit_items answers shown (Skipped why count) = []
 
-unfoldable pub visits_items : (Subject → Reasons) → Shown → List Visit → List Item
-visits_items reasons shown visits = flat_map (visit_items reasons shown) visits
+unfoldable pub visits_items : (Subject → Answer) → Shown → List Visit → List Item
+visits_items answers shown visits = flat_map (visit_items answers shown) visits
 
 -- ---- what is counted
 
@@ -142,18 +142,18 @@ tally_with key tally counts = record {
   files = with_audited (nat_lt tally.counts.revoked counts.revoked) (with_key key tally.files);
 }
 
-abbrev pub tallied : (Subject → Reasons) → Tally → Visit → Tally
-tallied reasons tally (Audited key name content) =
-    tally_with key tally (all_counted tally.counts (file_kinds reasons name content))
-tallied reasons tally (Same told key name) =
+abbrev pub tallied : (Subject → Answer) → Tally → Visit → Tally
+tallied answers tally (Audited key name content) =
+    tally_with key tally (all_counted tally.counts (file_kinds answers name content))
+tallied answers tally (Same told key name) =
     record { counts = tally.counts; files = with_same key tally.files }
-tallied reasons tally (Skipped why count) =
+tallied answers tally (Skipped why count) =
     record { counts = tally.counts; files = with_skipped why count tally.files }
 
-abbrev pub all_tallied : (Subject → Reasons) → Tally → List Visit → Tally
-all_tallied reasons tally [] = tally
-all_tallied reasons tally (visit ∷ visits) =
-    all_tallied reasons (tallied reasons tally visit) visits
+abbrev pub all_tallied : (Subject → Answer) → Tally → List Visit → Tally
+all_tallied answers tally [] = tally
+all_tallied answers tally (visit ∷ visits) =
+    all_tallied answers (tallied answers tally visit) visits
 
 -- ---- a file is audited once
 
@@ -169,27 +169,27 @@ IsTimely tally (Same told key name) =
     (is_seen tally.files key ≡ true) × (told ≡ is_told tally.files key)
 IsTimely tally (Skipped why count) = Unit {0}
 
-abbrev pub AreTimely : (Subject → Reasons) → Tally → List Visit → Type 0
-AreTimely reasons tally [] = Unit {0}
-AreTimely reasons tally (visit ∷ visits) =
-    IsTimely tally visit × AreTimely reasons (tallied reasons tally visit) visits
+abbrev pub AreTimely : (Subject → Answer) → Tally → List Visit → Type 0
+AreTimely answers tally [] = Unit {0}
+AreTimely answers tally (visit ∷ visits) =
+    IsTimely tally visit × AreTimely answers (tallied answers tally visit) visits
 
 -- ---- an audit of which no finding is asked for
 
 -- a key is revoked in what is audited
-abbrev pub reveals : (Subject → Reasons) → Tally → Visit → Bool
-reveals reasons tally visit =
-    nat_lt tally.counts.revoked (tallied reasons tally visit).counts.revoked
+abbrev pub reveals : (Subject → Answer) → Tally → Visit → Bool
+reveals answers tally visit =
+    nat_lt tally.counts.revoked (tallied answers tally visit).counts.revoked
 
 -- No key is revoked in what was audited, or only in the last file of an audit that stopped.
-abbrev pub AreQuiet : (Subject → Reasons) → (stopped : Bool) → Tally → List Visit → Type 0
-AreQuiet reasons stopped tally [] = Unit {0}
-AreQuiet reasons false tally (visit ∷ visits) =
-    (reveals reasons tally visit ≡ false)
-    × AreQuiet reasons false (tallied reasons tally visit) visits
-AreQuiet reasons true tally (visit ∷ visits) =
-    ((reveals reasons tally visit ≡ false)
-    × AreQuiet reasons true (tallied reasons tally visit) visits)
+abbrev pub AreQuiet : (Subject → Answer) → (stopped : Bool) → Tally → List Visit → Type 0
+AreQuiet answers stopped tally [] = Unit {0}
+AreQuiet answers false tally (visit ∷ visits) =
+    (reveals answers tally visit ≡ false)
+    × AreQuiet answers false (tallied answers tally visit) visits
+AreQuiet answers true tally (visit ∷ visits) =
+    ((reveals answers tally visit ≡ false)
+    × AreQuiet answers true (tallied answers tally visit) visits)
     ⊎ (visits ≡ [])
 
 -- ---- how far an audit is
@@ -238,30 +238,30 @@ abbrev pub Says : Option (List ℕ) → List Item → Option Stop → State → 
 Says before items None now = HasSaid before items now.printer
 Says before items (Some stop) now = IsStopped before items stop now
 
-abbrev pub IsTallied : (Subject → Reasons) → List Visit → Option Stop → Tally → Tally → Type 0
-IsTallied reasons visits None old new = new ≡ all_tallied reasons old visits
-IsTallied reasons visits (Some stops.Revoked) old new = new ≡ all_tallied reasons old visits
-IsTallied reasons visits (Some stops.NoMemory) old new = Unit {0}
-IsTallied reasons visits (Some (stops.Lost count)) old new = Unit {0}
+abbrev pub IsTallied : (Subject → Answer) → List Visit → Option Stop → Tally → Tally → Type 0
+IsTallied answers visits None old new = new ≡ all_tallied answers old visits
+IsTallied answers visits (Some stops.Revoked) old new = new ≡ all_tallied answers old visits
+IsTallied answers visits (Some stops.NoMemory) old new = Unit {0}
+IsTallied answers visits (Some (stops.Lost count)) old new = Unit {0}
 
 -- This was met after whatever was met before: it was printed and counted, or the audit was stopped
 -- within it. Each file is audited once. Where no finding is asked for, the first file with a
 -- revoked key stops the audit.
-pub record Audits (reasons : Subject → Reasons) (visits : List Visit) (stop : Option Stop)
+pub record Audits (answers : Subject → Answer) (visits : List Visit) (stop : Option Stop)
     (old new : State) : Type 0 where
   pub says : (before : Option (List ℕ)) (said : List Item) → HasSaid before said old.printer
-      → Says before (said ++ visits_items reasons old.judge.shown visits) stop new
-  pub tallies : IsTallied reasons visits stop old.tally new.tally
-  pub timely : AreTimely reasons old.tally visits
+      → Says before (said ++ visits_items answers old.judge.shown visits) stop new
+  pub tallies : IsTallied answers visits stop old.tally new.tally
+  pub timely : AreTimely answers old.tally visits
   pub quiet : old.judge.shown.revoked ≡ false
-      → AreQuiet reasons (is_some stop) old.tally visits
+      → AreQuiet answers (is_some stop) old.tally visits
   pub writer : new.printer.writer ≡ old.printer.writer
 
--- An audit by a list is one by the reasons that it gives.
+-- An audit by a list is one by the answers that it and the texts give.
 pub record AuditsBy (visits : List Visit) (stop : Option Stop) (old new : State) : Type 0 where
   pub judge : new.judge ≡ old.judge
-  pub audits : (reasons : Subject → Reasons) → JudgesAs old.judge reasons
-      → Audits reasons visits stop old new
+  pub audits : (answers : Subject → Answer) → JudgesAs old.judge answers
+      → Audits answers visits stop old new
 
 -- ---- since a directory that is named was entered
 

@@ -8,6 +8,7 @@ use krl_arguments::Audit;
 use krl_audit::Shown;
 use krl_entries::Revocations;
 use span_sets::Held;
+use text_index::TextIndex;
 
 /// An audit that is asked for.
 #[derive(Clone, Copy)]
@@ -16,6 +17,8 @@ pub struct Order<'a> {
     pub list: &'a str,
     /// Keys that the list revokes on purpose: they are no findings.
     pub canaries: Option<&'a Revocations<Held>>,
+    /// The texts whose lines explain the findings, if any are given.
+    pub texts: Option<&'a TextIndex<'a>>,
     /// Which findings are printed, and how.
     pub shown: Shown,
     /// Whether every regular file of a directory is read, whatever its name.
@@ -27,14 +30,15 @@ pub struct Order<'a> {
 }
 
 impl<'a> Order<'a> {
-    /// The audit that this task of the command asks for, given the keys of its canaries, with its
-    /// findings in colour where the terminal shows colours.
+    /// The audit that this task of the command asks for, given the keys of its canaries and its
+    /// texts, with its findings in colour where the terminal shows colours.
     pub fn of(
         task: &'a Audit<'a>,
         canaries: Option<&'a Revocations<Held>>,
+        texts: Option<&'a TextIndex<'a>>,
         terminal: Terminal,
     ) -> Order<'a>
-        ensures { IsOrder task.now canaries.entry terminal result }
+        ensures { IsOrder task.now canaries.entry texts.entry terminal result }
     {
         let options = Options {
             quiet: task.quiet,
@@ -43,8 +47,9 @@ impl<'a> Order<'a> {
             colours: terminal.has_colours(),
         };
         Order {
-            list: task.list,
+            list: task.list_name(),
             canaries,
+            texts,
             shown: options.shown(),
             every_file: task.every_file,
             names_from: task.names_from.unwrap_or(""),

@@ -3,6 +3,7 @@
 ghost use Rattle.std.specs.Prelude.{◌≡◌, Option, Some, false, IfSome};
 ghost use Rattle.std.specs.Result.{result_err};
 ghost use Rattle.run_output.specs.Carries.{Carries};
+ghost use Rattle.krl_audit.specs.Audit.{IsUsable};
 ghost use Rattle.audit_run.specs.Run.{AuditsAll, EndsAuditBy, EndsAuditRun, HasNames, IsGiven};
 ghost use Rattle.audit_run.specs.Run.{is_hashed, last_items, names_fault, readers_of, sha256_if};
 ghost use Rattle.audit_run.specs.Run.{stop_fault, summary_of, summary_unless};
@@ -79,6 +80,7 @@ pub fn audit_run<'a, T: Tree, N: Source + Drop, I: Source + Drop, W: Screen>(
     given: Sources<'_, T, N, I>,
     out: &mut W,
 ) -> Audited<'a>
+    requires texts { IsUsable order.now.texts }
     requires working { W.Sink.has_failed out.old ≡ false }
     requires names { IfSome given.names (λ names. N.has_failed names ≡ false) }
     requires input { I.has_failed given.input ≡ false }
@@ -132,6 +134,7 @@ fn audit_by<'a, T: Tree, N: Source + Drop, I: Source + Drop, W: Screen>(
     given: Sources<'_, T, N, I>,
     out: &mut W,
 ) -> Counted<'a>
+    requires texts { IsUsable order.now.texts }
     requires working { W.Sink.has_failed out.old ≡ false }
     requires names { IfSome given.names (λ names. N.has_failed names ≡ false) }
     requires input { I.has_failed given.input ≡ false }
@@ -145,6 +148,7 @@ fn audit_by<'a, T: Tree, N: Source + Drop, I: Source + Drop, W: Screen>(
     let judge = Judge {
         list: queried.list,
         canaries: order.canaries,
+        texts: order.texts,
         shown: order.shown,
     };
     let mut round = Round::new(alloc, judge, printer, queried.stated);
@@ -199,6 +203,7 @@ fn audit_all<'a, T: Tree, N: Source + Drop, I: Source + Drop, W: Screen>(
     queried: &Queried<'_>,
     given: Sources<'_, T, N, I>,
 ) -> Option<RunFault<'a>>
+    requires texts { IsUsable round.old.judge.texts }
     requires names { IfSome given.names (λ names. N.has_failed names ≡ false) }
     requires input { I.has_failed given.input ≡ false }
     ensures all { AuditsAll (T.states given.entry.tree.now) order.now queried.now

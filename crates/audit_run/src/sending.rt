@@ -3,7 +3,7 @@
 
 ghost use Rattle.std.specs.Prelude.{◌≡◌, true};
 ghost use Rattle.krl_types.specs.Subject.{Subject};
-ghost use Rattle.krl_entries.specs.declared.reasons.Reasons.{Reasons};
+ghost use Rattle.audit_text.specs.Answer.{Answer};
 ghost use Rattle.krl_audit.specs.Audit.{JudgesAs, ToldFile, content_of};
 ghost use Rattle.run_output.specs.Carries.{Carries};
 ghost use Rattle.audit_run.specs.Visits.{same_items};
@@ -19,8 +19,8 @@ pub(crate) fn audit_and_send<'a, W: Sink>(
     name: &'a str,
     content: Result<&[u8], Refusal>,
 ) -> Result<(), RunFault<'a>>
-    ensures told { (reasons : Subject → Reasons) → JudgesAs auditor.old.judge reasons
-        → ToldFile reasons auditor.old.judge.shown name.now
+    ensures told { (answers : Subject → Answer) → JudgesAs auditor.old.judge answers
+        → ToldFile answers auditor.old.judge.shown name.now
         (content_of content.entry) result auditor.old.run.printer auditor.new.run.printer
         auditor.old.counts auditor.new.counts }
     ensures judge { auditor.new.judge ≡ auditor.old.judge }

@@ -1,4 +1,5 @@
 -- A line in colour is a plain line with one word in a colour.
+use Rattle.std.specs.List.{AllByRecursion}
 use Rattle.std.proofs.Common.{◌≡◌, ℕ, ◌==◌, ◌<◌, ◌^◌, Bool, true, false, List, [], ◌∷◌, ◌++◌, append_assoc, codes, decimal, if◌then◌else◌, length, nat_lt, Option, Some, None, refl, sym, ap, subst, ◌∙◌, arith}
 use Rattle.ssh_wire.specs.Laws.{ReadsJust}
 use Rattle.ssh_wire.specs.Reading.{string_at}
@@ -35,8 +36,11 @@ use Rattle.krl_entries.specs.declared.reasons.Reason.TheVariants as reasons
 use Rattle.krl_entries.specs.declared.reasons.Reasons.{Reasons}
 use Rattle.audit_text.specs.Colour.{HasNoEscape, IsCount, IsPainted, in_colour, painted, verdict_word, word_text}
 use Rattle.audit_text.specs.More.{are_more, kind_mark, kind_word, more_line, more_words}
-use Rattle.audit_text.specs.Text.{comment_words, key_line, key_words, location_text, of_authority, reason_parts, reason_words, reasons_text, type_of, unread_line}
+use Rattle.audit_text.specs.Answer.{Answer, HaveNumbers}
+use Rattle.audit_text.specs.Text.{comment_words, entry_line, explained_if, explained_text, key_line, key_text, key_words, unnamed_line, location_text, of_authority, reason_parts, reason_words, reasons_text, type_of, unread_line}
 use Rattle.line_pieces.specs.Visible.{visible}
+use Rattle.text_index.specs.Explaining.{Explained}
+use Rattle.text_index.specs.NamingLines.{Line}
 use Rattle.audit_lines.specs.Why.{refusal_why, why_text}
 use Rattle.run_faults.specs.Causes.{line_words}
 use Rattle.audit_text.specs.declared.line_kind.LineKind.{LineKind}
@@ -138,6 +142,40 @@ parts_free asked all small (reason ∷ few) =
 reasons_free : (asked : Subject) (all : Reasons) → IsSmall asked.cert → HasNoEscape (reasons_text asked all)
 reasons_free asked all small = free_drop (reason_parts asked all) (parts_free asked all small every_reason)
 
+-- ---- the lines that explain
+
+entry_free : (line : Line) → line.number < 2 ^ 64 → HasNoEscape (entry_line line)
+entry_free line small =
+    three_free (codes "  ") (location_text line.file line.number) (codes ": " ++ (visible false line.text ++ 10 ∷ [])) refl (place_free line.file line.number small)
+    (three_free (codes ": ") (visible false line.text) (10 ∷ []) refl (visible_free false line.text) refl)
+
+entries_free : (lines : List Line) → AllByRecursion (λ line. line.number < 2 ^ 64) lines → HasNoEscape (flat_map entry_line lines)
+entries_free [] small = refl
+entries_free (line ∷ lines) small = free_append (entry_line line) (flat_map entry_line lines) (entry_free line small.0) (entries_free lines small.1)
+
+unnamed_free : (asked : Subject) (unnamed : Reasons) → IsSmall asked.cert → HasNoEscape (unnamed_line asked unnamed)
+unnamed_free asked unnamed small = three_free (codes "  no line of the texts names it") (reasons_text asked unnamed) (10 ∷ []) refl (reasons_free asked unnamed small) refl
+
+explained_free : (asked : Subject) (explained : Option Explained) → IsSmall asked.cert → HaveNumbers explained → HasNoEscape (explained_if asked explained)
+unfolding explained_text
+explained_free asked None small numbers = refl
+explained_free asked (Some explained) small numbers =
+    free_append (flat_map entry_line explained.lines) (if any_reason explained.unnamed then unnamed_line asked explained.unnamed else []) (entries_free explained.lines numbers)
+    (if_free (any_reason explained.unnamed) (unnamed_line asked explained.unnamed) (unnamed_free asked explained.unnamed small))
+
+-- what follows a line in colour has none
+followed : (plain coloured tail : List ℕ) → IsPainted plain coloured → HasNoEscape tail → IsPainted (plain ++ tail) (coloured ++ tail)
+followed plain coloured tail is free = record {
+  front = is.front;
+  colour = is.colour;
+  word = is.word;
+  rest = is.rest ++ tail;
+  plain_is = ap (λ (t : List ℕ). t ++ tail) is.plain_is ∙ append_assoc is.front (is.word ++ is.rest) tail ∙ ap (λ (t : List ℕ). is.front ++ t) (append_assoc is.word is.rest tail);
+  coloured_is = ap (λ (t : List ℕ). t ++ tail) is.coloured_is ∙ append_assoc is.front (in_colour is.colour is.word ++ is.rest) tail
+      ∙ ap (λ (t : List ℕ). is.front ++ t) (append_assoc (in_colour is.colour is.word) is.rest tail);
+  no_escape = free_append plain tail is.no_escape free;
+}
+
 -- ---- the type of a key
 
 abbrev IsFreeName : List ℕ → Type 0
@@ -175,11 +213,17 @@ module _ (reads : ReadsJust string_at string (λ (text : List ℕ). length text 
       (three_free (type_of blob) (codes " ") (fingerprint_text Sha256 asked.plain) typed refl (fingerprint_free asked.plain)) (reasons_free asked all small)
       (free_append (comment_words comment) (10 ∷ []) (comment_free comment) refl)
 
-  pub key_painted : (name blob comment : List ℕ) (number : ℕ) (asked : Subject) (all : Reasons) → number < 2 ^ 64 → IsBytes blob → IsSubject blob asked
+  line_painted : (name blob comment : List ℕ) (number : ℕ) (asked : Subject) (all : Reasons) → number < 2 ^ 64 → IsBytes blob → IsSubject blob asked
       → IsPainted (key_line false name number blob comment asked all) (key_line true name number blob comment asked all)
-  key_painted name blob comment number asked all small bytes is =
+  line_painted name blob comment number asked all small bytes is =
       verdict_painted (location_text name number) (key_words blob asked ++ (reasons_text asked all ++ (comment_words comment ++ 10 ∷ []))) (any_reason all)
       (place_free name number small) (key_tail_free blob comment asked all (type_free blob asked bytes is) (small_serial blob asked is))
+
+  pub key_painted : (name blob comment : List ℕ) (number : ℕ) (asked : Subject) (answer : Answer) → number < 2 ^ 64 → HaveNumbers answer.explained → IsBytes blob → IsSubject blob asked
+      → IsPainted (key_text false name number blob comment asked answer) (key_text true name number blob comment asked answer)
+  key_painted name blob comment number asked answer small numbers bytes is =
+      followed (key_line false name number blob comment asked answer.reasons) (key_line true name number blob comment asked answer.reasons) (explained_if asked answer.explained)
+      (line_painted name blob comment number asked answer.reasons small bytes is) (explained_free asked answer.explained (small_serial blob asked is) numbers)
 
 -- ---- why a line or a file is not read
 

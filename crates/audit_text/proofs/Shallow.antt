@@ -1,5 +1,6 @@
 -- The objects of findings are nested three deep, and their numbers are counts.
-use Rattle.std.proofs.Common.{ℕ, ◌<◌, ◌^◌, ◌≤◌, Bool, true, false, List, [], ◌∷◌, ◌++◌, Option, None, Some, codes, nat_lt, if◌then◌else◌, arith}
+use Rattle.std.specs.List.{AllByRecursion}
+use Rattle.std.proofs.Common.{map, ℕ, ◌<◌, ◌^◌, ◌≤◌, Bool, true, false, List, [], ◌∷◌, ◌++◌, Option, None, Some, codes, nat_lt, if◌then◌else◌, arith}
 use Rattle.key_text.specs.Fingerprints.{fingerprint_text}
 use Rattle.key_text.specs.Marker.{marker_word}
 use Rattle.key_text.specs.declared.hash.Hash.TheVariants.{Sha256}
@@ -15,16 +16,19 @@ use Rattle.json.specs.Tree.{depth}
 use Rattle.json_lines.specs.Field.{Field, number_field, text_field, word_field}
 use Rattle.json_lines.proofs.Shallow.{FieldsFit, Fits, ValuesFit, array_fits, deeper, digits_fit, fields_fit, number_fits, object_fits, text_fits, values_fit, word_fits}
 use Rattle.audit_text.specs.More.{kind_word, more_fields, more_object, more_words, why_more}
-use Rattle.audit_text.specs.Objects.{by_value, cert_field, cert_fields, cert_names, front_fields, front_word, id_field, id_value, key_fields, key_object, line_fields, list_fields, location_fields, marker_fields}
+use Rattle.audit_text.specs.Objects.{by_value, cert_field, cert_fields, cert_names, front_fields, front_word, id_field, id_value, key_fields, key_object, line_fields, list_fields, location_fields, marker_fields, entry_value, explained_fields}
 use Rattle.audit_text.specs.Objects.{of_value, reason_value, reason_values, reasons_field, serial_field, serial_value, status_word, unread_object}
 use Rattle.audit_lines.specs.FaultText.{why_fault, why_fields}
 use Rattle.audit_lines.specs.Outcome.{Found}
 use Rattle.audit_text.specs.Same.{same_fields, same_object}
+use Rattle.audit_text.specs.Answer.{Answer, HaveNumbers}
 use Rattle.audit_text.specs.Text.{type_of}
 use Rattle.audit_lines.specs.Why.{why_text}
 use Rattle.audit_text.specs.declared.line_kind.LineKind.{LineKind}
 use Rattle.audit_text.specs.declared.line_kind.LineKind.TheVariants as kinds
 use Rattle.audit_lines.specs.declared.why.Why.{Why}
+use Rattle.text_index.specs.Explaining.{Explained}
+use Rattle.text_index.specs.NamingLines.{Line}
 
 -- ---- reasons
 
@@ -77,12 +81,25 @@ reasons_fit asked all = array_fits 1 (reason_values asked all) (few_fit asked al
 
 -- ---- fields
 
-line_fits : (number : ℕ) (test : Bool) → number < 2 ^ 64 → FieldsFit 2 (if test then number_field (codes "line") number ∷ [] else [])
-line_fits number true small = (number_fits 2 (codes "line") number small, tt)
-line_fits number false small = tt
+line_fits : (deep number : ℕ) (test : Bool) → number < 2 ^ 64 → FieldsFit deep (if test then number_field (codes "line") number ∷ [] else [])
+line_fits deep number true small = (number_fits deep (codes "line") number small, tt)
+line_fits deep number false small = tt
 
-place_fits : (name : List ℕ) (number : ℕ) → number < 2 ^ 64 → FieldsFit 2 (location_fields name number)
-place_fits name number small = (word_fits 2 (codes "file") name, line_fits number (nat_lt 0 number) small)
+place_fits : (deep : ℕ) (name : List ℕ) (number : ℕ) → number < 2 ^ 64 → FieldsFit deep (location_fields name number)
+place_fits deep name number small = (word_fits deep (codes "file") name, line_fits deep number (nat_lt 0 number) small)
+
+entry_fits : (line : Line) → line.number < 2 ^ 64 → Fits 1 (entry_value line)
+entry_fits line small =
+    object_fits 0 (location_fields line.file line.number ++ text_field (codes "text") line.text ∷ [])
+    (fields_fit 0 (location_fields line.file line.number) (text_field (codes "text") line.text ∷ []) (place_fits 0 line.file line.number small) (text_fits 0 (codes "text") line.text, tt))
+
+entries_fit : (lines : List Line) → AllByRecursion (λ line. line.number < 2 ^ 64) lines → ValuesFit 1 (map entry_value lines)
+entries_fit [] small = tt
+entries_fit (line ∷ lines) small = (entry_fits line small.0, entries_fit lines small.1)
+
+explained_fit : (asked : Subject) (explained : Option Explained) → HaveNumbers explained → FieldsFit 2 (explained_fields asked explained)
+explained_fit asked None small = tt
+explained_fit asked (Some explained) small = (array_fits 1 (map entry_value explained.lines) (entries_fit explained.lines small), (reasons_fit asked explained.unnamed, tt))
 
 key_fits : (blob comment : List ℕ) (asked : Subject) (all : Reasons) → FieldsFit 2 (key_fields blob comment asked all)
 key_fits blob comment asked all =
@@ -103,25 +120,27 @@ cert_fits : (cert : Option CertNames) → FieldsFit 2 (cert_fields cert)
 cert_fits None = tt
 cert_fits (Some cert) = (deeper 1 2 (cert_field cert).value (omega arith) (object_fits 0 (cert_names cert) (names_fit cert)), tt)
 
-list_fits : (asked : Subject) (all : Reasons) → FieldsFit 2 (list_fields asked all)
-list_fits asked all = fields_fit 2 (cert_fields asked.cert) (reasons_field asked all ∷ []) (cert_fits asked.cert) (reasons_fit asked all, tt)
+list_fits : (asked : Subject) (answer : Answer) → HaveNumbers answer.explained → FieldsFit 2 (list_fields asked answer)
+list_fits asked answer small =
+    fields_fit 2 (cert_fields asked.cert) (reasons_field asked answer.reasons ∷ explained_fields asked answer.explained) (cert_fits asked.cert)
+    (reasons_fit asked answer.reasons, explained_fit asked answer.explained small)
 
 -- ---- objects
 
-pub key_object_fits : (name : List ℕ) (number : ℕ) (found : Found) (all : Reasons) → number < 2 ^ 64 → Fits 3 (key_object name number found all)
-key_object_fits name number found all small =
+pub key_object_fits : (name : List ℕ) (number : ℕ) (found : Found) (answer : Answer) → number < 2 ^ 64 → HaveNumbers answer.explained → Fits 3 (key_object name number found answer)
+key_object_fits name number found answer small numbers =
     let location = location_fields name number in
-    let key = key_fields found.blob found.comment found.asked all in
+    let key = key_fields found.blob found.comment found.asked answer.reasons in
     let line = line_fields found.marker found.hosts found.front in
-    let list = list_fields found.asked all in
+    let list = list_fields found.asked answer in
     let line_fit = fields_fit 2 (marker_fields found.marker) (front_fields found.hosts found.front) (marker_fits found.marker) (front_fits found.hosts found.front) in
     object_fits 2 (location ++ (key ++ (line ++ list)))
-    (fields_fit 2 location (key ++ (line ++ list)) (place_fits name number small)
-    (fields_fit 2 key (line ++ list) (key_fits found.blob found.comment found.asked all) (fields_fit 2 line list line_fit (list_fits found.asked all))))
+    (fields_fit 2 location (key ++ (line ++ list)) (place_fits 2 name number small)
+    (fields_fit 2 key (line ++ list) (key_fits found.blob found.comment found.asked answer.reasons) (fields_fit 2 line list line_fit (list_fits found.asked answer numbers))))
 
 pub unread_object_fits : (name : List ℕ) (number : ℕ) (why : Why) → number < 2 ^ 64 → Fits 3 (unread_object name number why)
 unread_object_fits name number why small =
-    object_fits 2 (location_fields name number ++ why_fields why) (fields_fit 2 (location_fields name number) (why_fields why) (place_fits name number small)
+    object_fits 2 (location_fields name number ++ why_fields why) (fields_fit 2 (location_fields name number) (why_fields why) (place_fits 2 name number small)
     (word_fits 2 (codes "status") (codes "unread"), (word_fits 2 (codes "fault") (why_fault why), (text_fits 2 (codes "why") (why_text why), tt))))
 
 why_more_fits : (kind : LineKind) (lines : ℕ) → FieldsFit 2 (why_more kind lines)

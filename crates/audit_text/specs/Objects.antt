@@ -1,6 +1,6 @@
 -- Findings as JSON objects.
 use Rattle.std.specs.Prelude.{ℕ, Bool, true, false, List, [], ◌∷◌, ◌++◌, codes, flat_map}
-use Rattle.std.specs.Prelude.{nat_lt, Option, Some, None, if◌then◌else◌}
+use Rattle.std.specs.Prelude.{map, nat_lt, Option, Some, None, if◌then◌else◌}
 use Rattle.json.specs.Json.{Json}
 use Rattle.json_lines.specs.Field.{Field, array_of, digits_field, field, number_field, object_of}
 use Rattle.json_lines.specs.Field.{text_field, word_field}
@@ -14,9 +14,12 @@ use Rattle.krl_entries.specs.declared.reasons.Reason.{Reason}
 use Rattle.krl_entries.specs.declared.reasons.Reason.TheVariants as reasons
 use Rattle.krl_entries.specs.declared.reasons.Reasons.{Reasons}
 use Rattle.audit_lines.specs.Outcome.{Found}
+use Rattle.audit_text.specs.Answer.{Answer}
 use Rattle.audit_text.specs.Text.{type_of}
 use Rattle.audit_lines.specs.FaultText.{why_fields}
 use Rattle.audit_lines.specs.declared.why.Why.{Why}
+use Rattle.text_index.specs.Explaining.{Explained}
+use Rattle.text_index.specs.NamingLines.{Line}
 
 -- the name of a file, and the number of a line of it; 0 represents the whole file
 abbrev pub location_fields : List ℕ → ℕ → List Field
@@ -115,17 +118,30 @@ cert_fields (Some cert) = cert_field cert ∷ []
 abbrev pub reasons_field : Subject → Reasons → Field
 reasons_field asked all = field (codes "reasons") (array_of (reason_values asked all))
 
+-- a line of a text, with its place
+abbrev pub entry_value : Line → Json
+entry_value line =
+    object_of (location_fields line.file line.number ++ text_field (codes "text") line.text ∷ [])
+
+-- the lines of texts that explain, and the reasons that none gives
+abbrev pub explained_fields : Subject → Option Explained → List Field
+explained_fields asked None = []
+explained_fields asked (Some explained) =
+    field (codes "entries") (array_of (map entry_value explained.lines))
+    ∷ field (codes "unnamed") (array_of (reason_values asked explained.unnamed)) ∷ []
+
 -- the certificate, and why it or its key is revoked
-abbrev pub list_fields : Subject → Reasons → List Field
-list_fields asked all =
-    cert_fields asked.cert ++ reasons_field asked all ∷ []
+abbrev pub list_fields : Subject → Answer → List Field
+list_fields asked answer =
+    cert_fields asked.cert
+    ++ reasons_field asked answer.reasons ∷ explained_fields asked answer.explained
 
 -- the object of a key, revoked or not
-abbrev pub key_object : List ℕ → ℕ → Found → Reasons → Json
-key_object name number found all =
+abbrev pub key_object : List ℕ → ℕ → Found → Answer → Json
+key_object name number found answer =
     object_of (location_fields name number
-    ++ (key_fields found.blob found.comment found.asked all
-    ++ (line_fields found.marker found.hosts found.front ++ list_fields found.asked all)))
+    ++ (key_fields found.blob found.comment found.asked answer.reasons
+    ++ (line_fields found.marker found.hosts found.front ++ list_fields found.asked answer)))
 
 -- ---- lines and files that are not read
 

@@ -10,8 +10,11 @@ use Rattle.krl_entries.specs.Reasons.{any_reason, every_reason, has_reason}
 use Rattle.krl_entries.specs.declared.reasons.Reason.{Reason}
 use Rattle.krl_entries.specs.declared.reasons.Reason.TheVariants as reasons
 use Rattle.krl_entries.specs.declared.reasons.Reasons.{Reasons}
+use Rattle.audit_text.specs.Answer.{Answer}
 use Rattle.audit_text.specs.Colour.{unread_word, verdict_word}
 use Rattle.line_pieces.specs.Visible.{visible}
+use Rattle.text_index.specs.Explaining.{Explained}
+use Rattle.text_index.specs.NamingLines.{Line}
 use Rattle.audit_lines.specs.Why.{why_text}
 use Rattle.audit_lines.specs.declared.why.Why.{Why}
 
@@ -54,6 +57,29 @@ reason_parts asked all =
 abbrev pub reasons_text : Subject → Reasons → List ℕ
 reasons_text asked all = drop 1 (reason_parts asked all)
 
+-- ---- what explains
+
+-- a line of a text, with its place
+abbrev pub entry_line : Line → List ℕ
+entry_line line =
+    codes "  " ++ (location_text line.file line.number
+    ++ (codes ": " ++ (visible false line.text ++ 10 ∷ [])))
+
+-- the reasons that no line gives
+abbrev pub unnamed_line : Subject → Reasons → List ℕ
+unnamed_line asked unnamed =
+    codes "  no line of the texts names it" ++ (reasons_text asked unnamed ++ 10 ∷ [])
+
+-- the lines that explain, and after them the reasons that none gives, if there are any
+unfoldable pub explained_text : Subject → Explained → List ℕ
+explained_text asked explained =
+    flat_map entry_line explained.lines
+    ++ (if any_reason explained.unnamed then unnamed_line asked explained.unnamed else [])
+
+abbrev pub explained_if : Subject → Option Explained → List ℕ
+explained_if asked None = []
+explained_if asked (Some explained) = explained_text asked explained
+
 -- ---- lines
 
 abbrev pub name_in : Result (List ℕ × List ℕ) WireFault → List ℕ
@@ -79,6 +105,12 @@ key_line coloured name number blob comment asked all =
     ++ (verdict_word coloured (any_reason all)
     ++ (key_words blob asked
     ++ (reasons_text asked all ++ (comment_words comment ++ 10 ∷ []))))
+
+-- the line of a key, and the lines of texts that explain it
+abbrev pub key_text : Bool → List ℕ → ℕ → (blob comment : List ℕ) → Subject → Answer → List ℕ
+key_text coloured name number blob comment asked answer =
+    key_line coloured name number blob comment asked answer.reasons
+    ++ explained_if asked answer.explained
 
 -- the line for a line or file that is not read, in colour or not
 abbrev pub unread_line : Bool → List ℕ → ℕ → Why → List ℕ

@@ -3,6 +3,7 @@
 #![tactic(auto)]
 
 mod colour;
+mod explained;
 mod format;
 pub mod laws;
 mod line_kind;

@@ -9,8 +9,10 @@ ghost use Rattle.json_lines.specs.Field.{json_line, text_field};
 ghost use Rattle.audit_text.specs.Objects.{cert_fields, front_fields, front_word, key_object};
 ghost use Rattle.audit_text.specs.Objects.{location_fields, marker_fields, status_word};
 ghost use Rattle.audit_text.specs.Objects.{unread_object};
+ghost use Rattle.audit_text.specs.Verdict.{answer_of};
 ghost use Rattle.audit_lines.specs.Outcome.{found_as};
 
+use crate::explained::ExplainedOf;
 use crate::reason_values::ReasonsOf;
 use crate::text::{Location, Verdict, type_of};
 use audit_lines::Why;
@@ -30,7 +32,7 @@ pub(crate) fn write_key_object(
 ) -> Result<(), AllocError>
     ensures { OnOk result (line.new.items
         ≡ json_line (key_object location.entry.name.now location.entry.number
-        (found_as verdict.now.found.now verdict.now.subject.now) verdict.now.reasons)) }
+        (found_as verdict.now.found.now verdict.now.subject.now) (answer_of verdict.now))) }
 {
     let subject = verdict.subject;
     let found = verdict.found;
@@ -41,7 +43,8 @@ pub(crate) fn write_key_object(
         "comment": Text(found.comment),
         fields!(MarkerOf(found.marker), Front(found.hosts, found.front)),
         CertOf(&subject.cert),
-        "reasons": Array(ReasonsOf(subject, verdict.reasons)))
+        "reasons": Array(ReasonsOf(subject, verdict.reasons)),
+        ExplainedOf(subject, verdict.explanation))
 }
 
 /// Makes the line for a line or file that is not read.

@@ -2,6 +2,7 @@
 
 ghost use Rattle.std.specs.Prelude.{◌≡◌, OnOk};
 ghost use Rattle.audit_text.specs.Said.{key_said, unread_said};
+ghost use Rattle.audit_text.specs.Verdict.{answer_of};
 ghost use Rattle.audit_lines.specs.Outcome.{found_as};
 
 use crate::format::Format;
@@ -10,7 +11,7 @@ use crate::text::{Location, Verdict, write_key, write_unread};
 use audit_lines::Why;
 use std::alloc::{AllocError, Global};
 
-/// Makes the line of a key.
+/// Makes the line of a key, and those that explain it.
 pub fn say_key(
     alloc: Global,
     form: Format,
@@ -20,7 +21,7 @@ pub fn say_key(
 ) -> Result<(), AllocError>
     ensures { OnOk result (line.new.items
         ≡ key_said form location.entry.name.now location.entry.number
-        (found_as verdict.now.found.now verdict.now.subject.now) verdict.now.reasons) }
+        (found_as verdict.now.found.now verdict.now.subject.now) (answer_of verdict.now)) }
 {
     match form {
         Format::Text => write_key(alloc, false, location, verdict, line),

@@ -1,10 +1,12 @@
 //! The lines of findings.
 
 ghost use Rattle.std.specs.Prelude.{◌≡◌, OnOk};
-ghost use Rattle.audit_text.specs.Text.{comment_words, key_line, location_text, type_of};
-ghost use Rattle.audit_text.specs.Text.{unread_line};
+ghost use Rattle.audit_text.specs.Text.{comment_words, key_line, key_text, location_text};
+ghost use Rattle.audit_text.specs.Text.{type_of, unread_line};
+ghost use Rattle.audit_text.specs.Verdict.{answer_of};
 
 use crate::colour::{unread_mark, verdict_mark};
+use crate::explained::push_explained;
 use crate::reasons::{after_first, push_parts};
 use audit_lines::{Found, Told, Why};
 use key_text::{Hash, fingerprint};
@@ -13,6 +15,7 @@ use krl_types::Subject;
 use line_pieces::{Printed, Visible, Words, pieces, put};
 use ssh_wire::Cursor;
 use std::alloc::{AllocError, Global};
+use text_index::Explanation;
 
 /// The location of a line: the name of its file, and its number from 1 on; 0 represents the whole
 /// file.
@@ -33,6 +36,8 @@ pub struct Verdict<'a> {
     pub subject: &'a Subject<'a>,
     /// The reasons why the key is revoked.
     pub reasons: Reasons,
+    /// The lines of texts that give these reasons, if texts are given.
+    pub explanation: &'a Option<Explanation<'a>>,
 }
 
 impl<'a> Printed for Location<'a> {
@@ -77,8 +82,27 @@ pub(crate) fn write_unread(
     put!(line; location, unread_mark(coloured), Told { alloc, why }, b"\n")
 }
 
-/// Makes the line of a key, with its line feed, in colour or not.
+/// Makes the line of a key, in colour or not, and the lines that explain it. A line feed ends each.
 pub(crate) fn write_key(
+    alloc: Global,
+    coloured: bool,
+    location: Location<'_>,
+    verdict: &Verdict<'_>,
+    line: &mut Vec<u8>,
+) -> Result<(), AllocError>
+    ensures { OnOk result (line.new.items ≡ key_text coloured location.entry.name.now
+        location.entry.number verdict.now.found.now.blob verdict.now.found.now.comment.now
+        verdict.now.subject.now (answer_of verdict.now)) }
+{
+    write_key_line(alloc, coloured, location, verdict, line)?;
+    match verdict.explanation {
+        None => Ok(()),
+        Some(explanation) => push_explained(alloc, line, verdict.subject, explanation),
+    }
+}
+
+// Makes the line of a key, with its line feed, in colour or not.
+fn write_key_line(
     alloc: Global,
     coloured: bool,
     location: Location<'_>,

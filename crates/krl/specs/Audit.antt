@@ -1,5 +1,5 @@
 -- How an audit of the file system ends. Nothing is claimed of what the file system states.
-use Rattle.std.specs.Prelude.{◌≡◌, ℕ, Bool, List, Option}
+use Rattle.std.specs.Prelude.{◌≡◌, ℕ, Bool, List, Option, option_map}
 use Rattle.std.specs.Borrow.{Bor}
 use Rattle.krl_arguments.specs.declared.task.Audit.{Audit}
 use Rattle.krl_entries.specs.Revocations.{Revocations}
@@ -10,13 +10,17 @@ use Rattle.audit_run.specs.declared.options.Terminal.{Terminal}
 use Rattle.audit_run.specs.declared.order.Order.{Order}
 use Rattle.audit_run.specs.declared.run.Audited.{Audited}
 use Rattle.krl.specs.Ending.{audit_status}
+use Rattle.krl.specs.Texts.{AreAsked}
+use Rattle.text_index.specs.declared.indexing.TextIndex.{TextIndex}
 
--- The status is that of an audit that the task asks for, by a list with these bytes.
-pub record EndsAudit (task : Audit) (bytes : List ℕ) (readers : Readers) (status : ℕ) : Type 0 where
+-- The status is that of an audit that the task asks for, by a list with these bytes and by these
+-- texts.
+pub record EndsAudit (task : Audit) (bytes : List ℕ) (texts : Option (Bor TextIndex))
+    (readers : Readers) (status : ℕ) : Type 0 where
   pub canaries : Option (Bor Revocations)
   pub terminal : Terminal
   pub order : Order
-  pub is_order : IsOrder task canaries terminal order
+  pub is_order : IsOrder task canaries texts terminal order
   pub before : Option (List ℕ)
   pub after : Option (List ℕ)
   pub failed : Bool
@@ -35,13 +39,26 @@ readers_by NamesFailed InputFailed names input = record {
   InputFailed = InputFailed;
 }
 
--- The task was audited with this status, by a list whose bytes were read and by the names of a file
--- or of standard input, if any are given; or it was not begun.
+-- the index that is lent
+abbrev pub index_now : Option (Bor TextIndex) → Option TextIndex
+index_now texts = option_map (λ index. index.now) texts
+
+-- The task was audited with this status, by a list with these bytes, by these texts and by the
+-- names of a file or of standard input, if any are given; or it was not begun.
+pub data IsAuditedBy (FileFailed InputFailed : Type 0) (task : Audit) (bytes : List ℕ)
+    (texts : Option (Bor TextIndex)) (status : ℕ) : Type 0 where
+  not_begun : status ≡ 255 → IsAuditedBy FileFailed InputFailed task bytes texts status
+  by_file : (names : Option (Option (List ℕ))) (input : Option (List ℕ))
+      → EndsAudit task bytes texts (readers_by FileFailed InputFailed names input) status
+      → IsAuditedBy FileFailed InputFailed task bytes texts status
+  by_input : (names : Option (Option (List ℕ))) (input : Option (List ℕ))
+      → EndsAudit task bytes texts (readers_by InputFailed InputFailed names input) status
+      → IsAuditedBy FileFailed InputFailed task bytes texts status
+
+-- The task was audited with this status by its list and its texts, or they are refused.
 pub data IsAudited (FileFailed InputFailed : Type 0) (task : Audit) (status : ℕ) : Type 0 where
-  not_begun : status ≡ 255 → IsAudited FileFailed InputFailed task status
-  by_file : (bytes : List ℕ) (names : Option (Option (List ℕ))) (input : Option (List ℕ))
-      → EndsAudit task bytes (readers_by FileFailed InputFailed names input) status
-      → IsAudited FileFailed InputFailed task status
-  by_input : (bytes : List ℕ) (names : Option (Option (List ℕ))) (input : Option (List ℕ))
-      → EndsAudit task bytes (readers_by InputFailed InputFailed names input) status
+  refused : status ≡ 255 → IsAudited FileFailed InputFailed task status
+  audited : (bytes : List ℕ) (texts : Option (Bor TextIndex))
+      → AreAsked task bytes (index_now texts)
+      → IsAuditedBy FileFailed InputFailed task bytes texts status
       → IsAudited FileFailed InputFailed task status

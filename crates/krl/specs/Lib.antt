@@ -3,6 +3,7 @@ pub mod Ending
 pub mod Disk
 pub mod Audit
 pub mod Names
+pub mod Texts
 pub mod Runs
 pub mod Make
 pub mod Program

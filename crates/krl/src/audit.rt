@@ -1,16 +1,19 @@
 //! `krl audit`: files of keys, audited by a list.
 
-ghost use Rattle.std.specs.Prelude.{◌≡◌, false, IfErr, IfSome};
+ghost use Rattle.std.specs.Prelude.{◌≡◌, false, IfErr, IfOk, IfSome};
 ghost use Rattle.audit_run.specs.Reading.{SomeFailed};
 ghost use Rattle.audit_run.specs.Run.{readers_of};
-ghost use Rattle.krl.specs.Audit.{EndsAudit, IsAudited};
+ghost use Rattle.krl.specs.Audit.{EndsAudit, IsAudited, IsAuditedBy};
+ghost use Rattle.krl.specs.Texts.{IsListBy};
+ghost use Rattle.krl_audit.specs.Audit.{IsUsable};
 
 use crate::Krl;
 use crate::canaries::{Unmet, canaries_of};
 use crate::disk::Disk;
-use crate::ending::{end_audit, fail_in_words};
-use crate::loading::bytes_of;
+use crate::ending::{end_audit, fail_in_words, fail_to_make};
+use crate::loading::{bytes_of, texts_of};
 use crate::screen::{Screen, terminal};
+use crate::texts::{date_of, index_of, list_of};
 use audit_run::{Order, Sources, audit_run};
 use byte_streams::{FromRead, Source};
 use krl_arguments::Audit;
@@ -21,17 +24,20 @@ use span_sets::Held;
 use ssh_wire::Bytes;
 use std::fs::{self, File};
 use std::io::Stdin;
+use text_index::TextIndex;
+use text_run::Text;
 
 // Why no audit is made by a list that does not revoke a canary.
 const UNMET: &[u8] =
     b"it must have a key and no line that is unread, and the list must revoke each \
 of its keys [audit 1 Canary]";
 
-// The bytes of the list of an audit, and the keys of its canaries.
+// The bytes of the list of an audit, the keys of its canaries, and its texts.
 #[derive(Drop)]
 struct Asked<'a> {
     list: Bytes,
     canaries: Option<&'a Revocations<Held>>,
+    texts: Option<&'a TextIndex<'a>>,
 }
 
 /// Audits what the task names. Answers the exit status. An audit that has canaries is not begun by
@@ -40,13 +46,59 @@ pub fn audit(rt: &HostRuntime, task: &Audit) -> u8
     ensures { IsAudited (SomeFailed ⟦<FromRead<File> as Source>⟧.has_failed)
         (SomeFailed ⟦<FromRead<Stdin> as Source>⟧.has_failed) task.now result }
 {
-    let (list, canaries) = match list_of(rt, task) {
-        Ok(found) => found,
+    let texts = match texts_of(rt, task.texts.as_slice()) {
+        Ok(texts) => texts,
+        Err(fault) => return fail_to_make(rt, &fault, &[]),
+    };
+    let date = match date_of(rt, texts.as_slice()) {
+        Ok(date) => date,
+        Err(status) => return status,
+    };
+    let index = match index_of(rt, date, texts.as_slice()) {
+        Ok(index) => index,
+        Err(status) => return status,
+    };
+    let list = match asked_list(rt, task.list, task.list_name(), date, texts.as_slice()) {
+        Ok(list) => list,
+        Err(status) => return status,
+    };
+    audit_list(rt, task, list, index.as_ref())
+}
+
+// The bytes of the given list, or of the one that the texts make; otherwise the exit status.
+fn asked_list<'a>(
+    rt: &HostRuntime,
+    given: Option<&str>,
+    name: &'a str,
+    date: u64,
+    texts: &'a [Text<'a>],
+) -> Result<Bytes, u8>
+    ensures list { IfOk result (λ list. IsListBy given.entry name.now date texts.now list) }
+    ensures refused { IfErr result (λ status. status ≡ 255) }
+{
+    let Some(given) = given else {
+        return list_of(rt, name, date, texts);
+    };
+    match bytes_of(rt, given) {
+        Ok(list) => Ok(list),
+        Err(cause) => Err(stop(rt, &Krl, &RunFault::whole(given, cause))),
+    }
+}
+
+// Audits what the task names by a list with these bytes and by these texts.
+fn audit_list(rt: &HostRuntime, task: &Audit, list: Bytes, texts: Option<&TextIndex<'_>>) -> u8
+    requires texts { IsUsable texts }
+    ensures { IsAuditedBy (SomeFailed ⟦<FromRead<File> as Source>⟧.has_failed)
+        (SomeFailed ⟦<FromRead<Stdin> as Source>⟧.has_failed) task.now list texts.entry result }
+{
+    let canaries = match asked_canaries(rt, task, list.as_slice()) {
+        Ok(canaries) => canaries,
         Err(status) => return status,
     };
     let asked = Asked {
         list,
         canaries: canaries.as_ref(),
+        texts,
     };
     let input = FromRead::new(rt.stdin());
     match task.names_from {
@@ -62,17 +114,17 @@ pub fn audit(rt: &HostRuntime, task: &Audit) -> u8
     }
 }
 
-// The bytes of the list of the task and the keys of its canaries, if it revokes each of them;
-// otherwise the exit status.
-fn list_of(rt: &HostRuntime, task: &Audit) -> Result<(Bytes, Option<Revocations<Held>>), u8>
+// The keys of the canaries of the task, if the list revokes each of them; otherwise the exit
+// status.
+fn asked_canaries(
+    rt: &HostRuntime,
+    task: &Audit,
+    list: &[u8],
+) -> Result<Option<Revocations<Held>>, u8>
     ensures { IfErr result (λ status. status ≡ 255) }
 {
-    let list = match bytes_of(rt, task.list) {
-        Ok(list) => list,
-        Err(cause) => return Err(stop(rt, &Krl, &RunFault::whole(task.list, cause))),
-    };
-    match canaries_of(rt, task.list, list.as_slice(), task.canary.as_slice()) {
-        Ok(canaries) => Ok((list, canaries)),
+    match canaries_of(rt, task.list_name(), list, task.canary.as_slice()) {
+        Ok(canaries) => Ok(canaries),
         Err(Unmet::At(name)) => Err(fail_in_words(rt, name, UNMET)),
         Err(Unmet::Stopped(fault)) => Err(stop(rt, &Krl, &fault)),
     }
@@ -86,17 +138,22 @@ fn audit_by<'a, N: Source + Drop, I: Source + Drop>(
     names: Option<N>,
     input: I,
 ) -> u8
+    requires texts { IsUsable asked.texts }
     requires names { IfSome names (λ names. N.has_failed names ≡ false) }
     requires input { I.has_failed input ≡ false }
-    ensures { EndsAudit task.now asked.entry.list
+    ensures { EndsAudit task.now asked.entry.list asked.entry.texts
         (readers_of N.left N.has_failed names I.left I.has_failed input) result }
 {
-    let Asked { list, canaries } = asked;
-    let order = Order::of(task, canaries, terminal(rt));
+    let Asked {
+        list,
+        canaries,
+        texts,
+    } = asked;
+    let order = Order::of(task, canaries, texts, terminal(rt));
     let tree = &Disk::new(rt, task);
     let given = Sources { tree, names, input };
     let mut screen = Screen::new(rt);
     let audited = audit_run(rt.alloc(), &order, list, given, &mut screen);
     screen.wipe();
-    end_audit(rt, task.list, audited)
+    end_audit(rt, task.list_name(), audited)
 }

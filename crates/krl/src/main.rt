@@ -12,6 +12,7 @@ mod make;
 mod names;
 mod screen;
 mod show;
+mod texts;
 
 use crate::audit::audit;
 use crate::check::check;

@@ -9,8 +9,9 @@ use Rattle.option_table.specs.Value.{values_in}
 -- and the texts of a list
 abbrev pub read_options : List (List ℕ)
 read_options =
-    codes "list" ∷ codes "newer-than" ∷ codes "superset-of" ∷ codes "names" ∷ codes "keep"
-    ∷ codes "canary" ∷ codes "files0-from" ∷ codes "lists" ∷ codes "old" ∷ codes "new" ∷ []
+    codes "list" ∷ codes "texts" ∷ codes "newer-than" ∷ codes "superset-of" ∷ codes "names"
+    ∷ codes "keep" ∷ codes "canary" ∷ codes "files0-from" ∷ codes "lists" ∷ codes "old"
+    ∷ codes "new" ∷ []
 
 abbrev pub is_input : List ℕ → Bool
 is_input name = bytes_eq name (codes "-")

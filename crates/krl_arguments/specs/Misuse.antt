@@ -22,8 +22,8 @@ error_text why usage =
 
 abbrev pub audit_usage : List ℕ
 audit_usage =
-    codes "audit -f <krl> [-aqx] [--all] [--canary <file>] [--exclude <name>] [--json]"
-    ++ codes " [--files0-from <file>] [file|directory]..."
+    codes "audit [-f <krl>] [-t <text>] [-aqx] [--all] [--canary <file>] [--exclude <name>]"
+    ++ codes " [--json] [--files0-from <file>] [file|directory]..."
 
 abbrev pub make_usage : List ℕ
 make_usage =
@@ -34,6 +34,7 @@ abbrev pub text_of_misuse : Misuse → List ℕ
 text_of_misuse misuses.Incomplete = why_line (codes "an argument is missing") ++ help_line
 text_of_misuse misuses.TwoInputs =
     why_line (codes "standard input (-) can be read for one file only") ++ help_line
+text_of_misuse misuses.NoList = error_text (codes "-f or -t is needed") audit_usage
 text_of_misuse misuses.NothingToAudit =
     error_text (codes "a file, a directory or --files0-from is needed") audit_usage
 text_of_misuse misuses.ExcludesPath =

@@ -2,15 +2,16 @@
 use Rattle.std.specs.Prelude.{ℕ, true, false, List, [], ◌∷◌, codes, map}
 use Rattle.clap.specs.Simple.{App, Shape, new_app, new_shape, with_subcommand}
 use Rattle.clap.specs.Walk.{Rule}
-use Rattle.option_table.specs.Argument.{letter_rule, letter_value_rule, long_rule}
-use Rattle.option_table.specs.Argument.{long_value_rule, long_values_rule, needed_rule, rule_by}
-use Rattle.option_table.specs.Argument.{some_words_rule, with_rules, word_rule, words_rule}
+use Rattle.option_table.specs.Argument.{letter_rule, letter_value_rule, letter_values_rule}
+use Rattle.option_table.specs.Argument.{long_rule, long_value_rule, long_values_rule, needed_rule}
+use Rattle.option_table.specs.Argument.{rule_by, some_words_rule, with_rules, word_rule, words_rule}
 use Rattle.krl_arguments.specs.declared.options.Subcommand.{Subcommand}
 
--- krl audit: -f, -a, -q, -x, --all, --canary, --exclude, --json, --files0-from, and the files
+-- krl audit: -f, -t, -a, -q, -x, --all, --canary, --exclude, --json, --files0-from, and the files
 abbrev pub audit_rules : List Rule
 audit_rules =
-    needed_rule (codes "list") 102
+    letter_value_rule (codes "list") 102
+    ∷ letter_values_rule (codes "texts") 116
     ∷ letter_rule (codes "fine") 97
     ∷ letter_rule (codes "quiet") 113
     ∷ letter_rule (codes "one-file-system") 120

@@ -1,6 +1,6 @@
 -- The tasks that words ask for (krl(1), SYNOPSIS).
-use Rattle.std.specs.Prelude.{ℕ, ◌&&◌, ◌||◌, Bool, not, List, [], codes, filter, is_some, length}
-use Rattle.std.specs.Prelude.{map, nat_eq, nat_lt, Option, Some, None, Result, Ok, Err}
+use Rattle.std.specs.Prelude.{ℕ, ◌&&◌, ◌||◌, Bool, not, List, [], ◌∷◌, codes, filter, is_some}
+use Rattle.std.specs.Prelude.{length, map, nat_eq, nat_lt, Option, Some, None, Result, Ok, Err}
 use Rattle.std.specs.Prelude.{option_and_then, option_map, if◌then◌else◌}
 use Rattle.std.specs.List.{list_any}
 use Rattle.std.specs.Str.{bytes_eq}
@@ -22,10 +22,11 @@ use Rattle.krl_arguments.specs.declared.task.Show.{Show as ShowOf}
 use Rattle.krl_arguments.specs.declared.task.Task.{Task as TaskOf}
 use Rattle.krl_arguments.specs.declared.task.Task.TheVariants as tasks
 
--- an audit: the list, whether -a, --all, -q, --json and -x are given, the canaries, the names that
--- are excluded, the file of names, and the files
+-- an audit: the list, the texts, whether -a, --all, -q, --json and -x are given, the canaries, the
+-- names that are excluded, the file of names, and the files
 pub record Audit : Type 0 where
-  pub list : List ℕ
+  pub list : Option (List ℕ)
+  pub texts : List (List ℕ)
   pub all : Bool
   pub every_file : Bool
   pub quiet : Bool
@@ -73,9 +74,10 @@ pub data Task : Type 0 where
 
 -- ---- the values of the words
 
-abbrev pub audit_with : List Row → List ℕ → Audit
-audit_with rows list = record {
-  list = list;
+abbrev pub audit_with : List Row → Audit
+audit_with rows = record {
+  list = first_of (codes "list") rows;
+  texts = values_in (codes "texts") rows;
   all = is_set (codes "fine") rows;
   every_file = is_set (codes "all") rows;
   quiet = is_set (codes "quiet") rows;
@@ -108,13 +110,27 @@ if_names audit =
     if nat_lt 0 (length (filter is_no_name audit.exclude)) then Err misuses.ExcludesPath
     else if_any audit
 
--- the audit by this list
-abbrev pub audit_by_list : List Row → Option (List ℕ) → Result Audit Misuse
-audit_by_list rows None = Err misuses.Incomplete
-audit_by_list rows (Some list) = if_names (audit_with rows list)
+-- The same, if a list or a text is given.
+abbrev pub if_list : Audit → Result Audit Misuse
+if_list audit =
+    if not (is_some audit.list) && is_empty audit.texts then Err misuses.NoList
+    else if_names audit
 
 abbrev pub audit_of : List Row → Result Audit Misuse
-audit_of rows = audit_by_list rows (first_of (codes "list") rows)
+audit_of rows = if_list (audit_with rows)
+
+-- the first of these names, if there is one
+abbrev pub first_name : List (List ℕ) → List ℕ
+first_name [] = []
+first_name (name ∷ names) = name
+
+abbrev pub name_or_first : Option (List ℕ) → List (List ℕ) → List ℕ
+name_or_first None texts = first_name texts
+name_or_first (Some list) texts = list
+
+-- The name of the list of an audit: the one that is given, or else that of the first text.
+abbrev pub list_name : Audit → List ℕ
+list_name audit = name_or_first audit.list audit.texts
 
 -- the seconds of --max-age, if it is given and is a duration
 abbrev pub max_age_of : List Row → Option ℕ
@@ -203,7 +219,8 @@ found_in words = subcommand_of program words
 
 abbrev pub audit_by : AuditOf → Audit
 audit_by audit = record {
-  list = audit.list.now;
+  list = option_map (λ text. text.now) audit.list;
+  texts = map (λ name. name.now) audit.texts.items;
   all = audit.all;
   every_file = audit.every_file;
   quiet = audit.quiet;

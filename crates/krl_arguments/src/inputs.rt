@@ -12,8 +12,9 @@ use option_table::values_of;
 use std::alloc::{AllocError, Global};
 
 // The options and words of every subcommand that name files to read.
-const READ_OPTIONS: [&str; 10] = [
+const READ_OPTIONS: [&str; 11] = [
     "list",
+    "texts",
     "newer-than",
     "superset-of",
     "names",

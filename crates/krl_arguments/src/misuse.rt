@@ -10,6 +10,8 @@ pub enum Misuse {
     Incomplete,
     /// Standard input is named twice.
     TwoInputs,
+    /// `krl audit` without a list and without a text.
+    NoList,
     /// `krl audit` without a file, a directory or a file of names.
     NothingToAudit,
     /// A value of `--exclude` that no entry of a directory has as its name.
@@ -36,6 +38,7 @@ impl Misuse {
         match self {
             Misuse::Incomplete => INCOMPLETE,
             Misuse::TwoInputs => TWO_INPUTS,
+            Misuse::NoList => NO_LIST,
             Misuse::NothingToAudit => NOTHING_TO_AUDIT,
             Misuse::ExcludesPath => EXCLUDES_PATH,
             Misuse::WrongAge => WRONG_AGE,
@@ -58,18 +61,26 @@ const TWO_INPUTS: &str = "error: standard input (-) can be read for one file onl
 For more information, try '--help'.
 ";
 
+const NO_LIST: &str = "error: -f or -t is needed
+
+Usage: krl audit [-f <krl>] [-t <text>] [-aqx] [--all] [--canary <file>] [--exclude <name>] \
+[--json] [--files0-from <file>] [file|directory]...
+
+For more information, try '--help'.
+";
+
 const NOTHING_TO_AUDIT: &str = "error: a file, a directory or --files0-from is needed
 
-Usage: krl audit -f <krl> [-aqx] [--all] [--canary <file>] [--exclude <name>] [--json] \
-[--files0-from <file>] [file|directory]...
+Usage: krl audit [-f <krl>] [-t <text>] [-aqx] [--all] [--canary <file>] [--exclude <name>] \
+[--json] [--files0-from <file>] [file|directory]...
 
 For more information, try '--help'.
 ";
 
 const EXCLUDES_PATH: &str = "error: --exclude takes the name of a file or a directory, not a path
 
-Usage: krl audit -f <krl> [-aqx] [--all] [--canary <file>] [--exclude <name>] [--json] \
-[--files0-from <file>] [file|directory]...
+Usage: krl audit [-f <krl>] [-t <text>] [-aqx] [--all] [--canary <file>] [--exclude <name>] \
+[--json] [--files0-from <file>] [file|directory]...
 
 For more information, try '--help'.
 ";

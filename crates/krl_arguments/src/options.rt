@@ -20,11 +20,16 @@ pub struct Subcommand {
     arguments: &'static [Argument],
 }
 
-const AUDIT: [Argument; 10] = [
+const AUDIT: [Argument; 11] = [
     Argument {
         id: "list",
-        syntax: Syntax::Needed('f', "krl"),
+        syntax: Syntax::LetterValue('f', "krl"),
         help: "The revocation list; - is standard input",
+    },
+    Argument {
+        id: "texts",
+        syntax: Syntax::LetterValues('t', "text"),
+        help: "Name the lines of this text that explain a finding; without -f, audit by its list",
     },
     Argument {
         id: "fine",

@@ -1,5 +1,8 @@
 //! The tasks that the words ask for.
 
+ghost use Rattle.std.specs.Prelude.{◌≡◌};
+ghost use Rattle.krl_arguments.specs.Task.{audit_by, list_name};
+
 /// The task that the words ask for.
 #[derive(Drop)]
 pub enum Task<'a> {
@@ -18,8 +21,10 @@ pub enum Task<'a> {
 /// `krl audit`: the list, which findings are printed, and which files are audited.
 #[derive(Drop)]
 pub struct Audit<'a> {
-    /// The revocation list, the value of `-f`.
-    pub list: &'a str,
+    /// The revocation list, by `-f`. Without it, the list is the one that the texts make.
+    pub list: Option<&'a str>,
+    /// The texts whose lines explain the findings, by `-t`.
+    pub texts: Vec<&'a str>,
     /// True if keys that are not revoked are printed too, by `-a`.
     pub all: bool,
     /// True if every regular file of a directory is read, by `--all`.
@@ -38,6 +43,19 @@ pub struct Audit<'a> {
     pub names_from: Option<&'a str>,
     /// Files and directories.
     pub files: Vec<&'a str>,
+}
+
+impl<'a> Audit<'a> {
+    /// The name of the list: that of `-f`, or else that of the first text.
+    pub fn list_name(&self) -> &'a str
+        ensures { result.now ≡ list_name (audit_by self.now) }
+    {
+        match (self.list, self.texts.as_slice()) {
+            (Some(list), _) => list,
+            (None, [first, ..]) => *first,
+            (None, []) => "",
+        }
+    }
 }
 
 /// `krl check`: the list, and its conditions.

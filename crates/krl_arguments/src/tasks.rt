@@ -7,8 +7,8 @@ ghost use Rattle.clap.specs.Walk.{rows_of};
 ghost use Rattle.krl_arguments.specs.Misuse.{result_map};
 ghost use Rattle.krl_arguments.specs.Task.{audit_by, audit_of, audit_with, check_by, check_of};
 ghost use Rattle.krl_arguments.specs.Task.{check_with, diff_by, diff_of, has_only_version, if_any};
-ghost use Rattle.krl_arguments.specs.Task.{if_checks, if_names, is_no_name, max_age_of, named_task};
-ghost use Rattle.krl_arguments.specs.Task.{show_by, show_with};
+ghost use Rattle.krl_arguments.specs.Task.{if_checks, if_list, if_names, is_no_name, max_age_of};
+ghost use Rattle.krl_arguments.specs.Task.{named_task, show_by, show_with};
 ghost use Rattle.krl_arguments.specs.Task.{task_by, task_in};
 
 use crate::duration::duration_of;
@@ -73,26 +73,21 @@ fn audit_in<'a>(
     ensures { IfOk result (λ audit.
         result_map audit_by audit ≡ audit_of (rows_of (found_of found.now))) }
 {
-    match value_of(found, "list") {
-        Some(list) => Ok(if_names(audit_with(alloc, found, list)?)),
-        None => Ok(Err(Misuse::Incomplete)),
-    }
+    Ok(if_list(audit_with(alloc, found)?))
 }
 
-// The audit with this list.
-fn audit_with<'a>(
-    alloc: Global,
-    found: &ArgMatches<'a>,
-    list: &'a str,
-) -> Result<Audit<'a>, AllocError>
+// The values of an audit.
+fn audit_with<'a>(alloc: Global, found: &ArgMatches<'a>) -> Result<Audit<'a>, AllocError>
     ensures { IfOk result (λ audit.
-        audit_by audit ≡ audit_with (rows_of (found_of found.now)) list.now) }
+        audit_by audit ≡ audit_with (rows_of (found_of found.now))) }
 {
+    let texts = values_of(alloc, found, "texts")?;
     let canary = values_of(alloc, found, "canary")?;
     let exclude = values_of(alloc, found, "exclude")?;
     let files = values_of(alloc, found, "files")?;
     Ok(Audit {
-        list,
+        list: value_of(found, "list"),
+        texts,
         all: is_set(found, "fine"),
         every_file: is_set(found, "all"),
         quiet: is_set(found, "quiet"),
@@ -103,6 +98,17 @@ fn audit_with<'a>(
         names_from: value_of(found, "files0-from"),
         files,
     })
+}
+
+// The audit, if a list or a text is given.
+fn if_list(audit: Audit<'_>) -> Result<Audit<'_>, Misuse>
+    ensures { result_map audit_by result ≡ if_list (audit_by audit.entry) }
+{
+    if audit.list.is_none() && audit.texts.is_empty() {
+        Err(Misuse::NoList)
+    } else {
+        if_names(audit)
+    }
 }
 
 // The audit, unless something that it excludes is no name.

@@ -2,7 +2,7 @@
 use Rattle.std.proofs.Common.{◌≡◌, ℕ, ◌-◌, ◌&&◌, Bool, true, false, List, [], ◌∷◌, ◌++◌, Result, Ok, Err, refl, sym, ap, subst, ◌∙◌}
 use Rattle.std.specs.Prelude.{IfOk, OnOk}
 use Rattle.krl_types.specs.Subject.{Subject}
-use Rattle.krl_entries.specs.declared.reasons.Reasons.{Reasons}
+use Rattle.audit_text.specs.Answer.{Answer}
 use Rattle.run_faults.specs.RunFault.{RunFault, run_fault_of}
 use Rattle.run_faults.specs.declared.cause.Cause.TheVariants as causes
 use Rattle.run_output.specs.Carries.{Carries}
@@ -20,32 +20,32 @@ use Rattle.krl_audit.specs.declared.tally.Tally.{Tally}
 
 -- ---- the item of a line
 
-item_by : (reasons : Subject → Reasons) (shown : Shown) (name : List ℕ) (number : ℕ) (outcome : Outcome) (kind : LineKind) (said : Bool) (text : List ℕ) → IsMade reasons shown name number outcome kind said text
-    → line_item reasons shown name number outcome ≡ said_if said name (outcome_line shown.format reasons name number outcome)
-item_by reasons shown name number outcome kind said text made =
-    ap (λ (k : LineKind). said_if (says shown k) name (outcome_line shown.format reasons name number outcome)) (sym made.kind_is)
-    ∙ ap (λ (b : Bool). said_if b name (outcome_line shown.format reasons name number outcome)) (sym made.said_is)
+item_by : (answers : Subject → Answer) (shown : Shown) (name : List ℕ) (number : ℕ) (outcome : Outcome) (kind : LineKind) (said : Bool) (text : List ℕ) → IsMade answers shown name number outcome kind said text
+    → line_item answers shown name number outcome ≡ said_if said name (outcome_line shown.format answers name number outcome)
+item_by answers shown name number outcome kind said text made =
+    ap (λ (k : LineKind). said_if (says shown k) name (outcome_line shown.format answers name number outcome)) (sym made.kind_is)
+    ∙ ap (λ (b : Bool). said_if b name (outcome_line shown.format answers name number outcome)) (sym made.said_is)
 
 -- the item of a line that was made
-item_is : (reasons : Subject → Reasons) (shown : Shown) (name : List ℕ) (number : ℕ) (outcome : Outcome) (kind : LineKind) (said : Bool) (text : List ℕ) → IsMade reasons shown name number outcome kind said text
-    → line_item reasons shown name number outcome ≡ said_if said name text
-item_is reasons shown name number outcome kind true text made = item_by reasons shown name number outcome kind true text made ∙ ap (said_of name) (sym (made.text_is refl))
-item_is reasons shown name number outcome kind false text made = item_by reasons shown name number outcome kind false text made
+item_is : (answers : Subject → Answer) (shown : Shown) (name : List ℕ) (number : ℕ) (outcome : Outcome) (kind : LineKind) (said : Bool) (text : List ℕ) → IsMade answers shown name number outcome kind said text
+    → line_item answers shown name number outcome ≡ said_if said name text
+item_is answers shown name number outcome kind true text made = item_by answers shown name number outcome kind true text made ∙ ap (said_of name) (sym (made.text_is refl))
+item_is answers shown name number outcome kind false text made = item_by answers shown name number outcome kind false text made
 
 named : (said : Bool) (name text : List ℕ) → name_of (said_if said name text) ≡ name
 named true name text = refl
 named false name text = refl
 
-line_named : (reasons : Subject → Reasons) (shown : Shown) (name : List ℕ) (number : ℕ) (outcome : Outcome) → name_of (line_item reasons shown name number outcome) ≡ name
-line_named reasons shown name number outcome = named (says shown (kind_of reasons outcome)) name (outcome_line shown.format reasons name number outcome)
+line_named : (answers : Subject → Answer) (shown : Shown) (name : List ℕ) (number : ℕ) (outcome : Outcome) → name_of (line_item answers shown name number outcome) ≡ name
+line_named answers shown name number outcome = named (says shown (kind_of answers outcome)) name (outcome_line shown.format answers name number outcome)
 
 -- ---- one line that was judged
 
-pub says_made : (reasons : Subject → Reasons) (shown : Shown) (name : List ℕ) (number : ℕ) (outcome : Outcome) (kind : LineKind) (said : Bool) (text : List ℕ) (value : Unit {0}) (old new : Printer)
-    → IsMade reasons shown name number outcome kind said text → Carries (said_if said name text ∷ []) (Ok value) old new → SaysLine reasons shown name (place number outcome) (Ok kind) old new
-says_made reasons shown name number outcome kind said text value old new made carries = record {
-  carries = carries_as (line_item reasons shown name number outcome ∷ []) (Ok value) (Ok kind) old new refl
-      (subst (λ (i : Item). Carries (i ∷ []) (Ok value) old new) (sym (item_is reasons shown name number outcome kind said text made)) carries);
+pub says_made : (answers : Subject → Answer) (shown : Shown) (name : List ℕ) (number : ℕ) (outcome : Outcome) (kind : LineKind) (said : Bool) (text : List ℕ) (value : Unit {0}) (old new : Printer)
+    → IsMade answers shown name number outcome kind said text → Carries (said_if said name text ∷ []) (Ok value) old new → SaysLine answers shown name (place number outcome) (Ok kind) old new
+says_made answers shown name number outcome kind said text value old new made carries = record {
+  carries = carries_as (line_item answers shown name number outcome ∷ []) (Ok value) (Ok kind) old new refl
+      (subst (λ (i : Item). Carries (i ∷ []) (Ok value) old new) (sym (item_is answers shown name number outcome kind said text made)) carries);
   kind_is = made.kind_is;
 }
 
@@ -56,47 +56,47 @@ withheld {A} item name stop now is_named is =
 
 -- ---- one line, and the counts
 
-pub told_said : (reasons : Subject → Reasons) (shown : Shown) (name : List ℕ) (tally : Tally) (line : Placed) (kind : LineKind) (value : Tally) (old new : Printer) (before after : Counts)
-    → SaysLine reasons (within tally shown) name line (Ok kind) old new → after ≡ counted before kind → value ≡ tallied tally kind
-    → Told reasons shown name tally (line ∷ []) (Ok value) old new before after
-told_said reasons shown name tally line kind value old new before after says counts more = record {
-  carries = carries_as (line_item reasons (within tally shown) name line.number line.outcome ∷ []) (Ok kind) (Ok value) old new refl says.carries;
+pub told_said : (answers : Subject → Answer) (shown : Shown) (name : List ℕ) (tally : Tally) (line : Placed) (kind : LineKind) (value : Tally) (old new : Printer) (before after : Counts)
+    → SaysLine answers (within tally shown) name line (Ok kind) old new → after ≡ counted before kind → value ≡ tallied tally kind
+    → Told answers shown name tally (line ∷ []) (Ok value) old new before after
+told_said answers shown name tally line kind value old new before after says counts more = record {
+  carries = carries_as (line_item answers (within tally shown) name line.number line.outcome ∷ []) (Ok kind) (Ok value) old new refl says.carries;
   counts = counts ∙ ap (counted before) says.kind_is;
   tally_is = more ∙ ap (tallied tally) says.kind_is;
 }
 
-pub told_stopped : (reasons : Subject → Reasons) (shown : Shown) (name : List ℕ) (tally : Tally) (line : Placed) (stop : RunFault) (old new : Printer) (before after : Counts)
-    → SaysLine reasons (within tally shown) name line (Err stop) old new → Told reasons shown name tally (line ∷ []) (Err stop) old new before after
-told_stopped reasons shown name tally line stop old new before after says = record {
-  carries = carries_as {A = LineKind} {B = Tally} (line_item reasons (within tally shown) name line.number line.outcome ∷ []) (Err stop) (Err stop) old new refl says.carries;
+pub told_stopped : (answers : Subject → Answer) (shown : Shown) (name : List ℕ) (tally : Tally) (line : Placed) (stop : RunFault) (old new : Printer) (before after : Counts)
+    → SaysLine answers (within tally shown) name line (Err stop) old new → Told answers shown name tally (line ∷ []) (Err stop) old new before after
+told_stopped answers shown name tally line stop old new before after says = record {
+  carries = carries_as {A = LineKind} {B = Tally} (line_item answers (within tally shown) name line.number line.outcome ∷ []) (Err stop) (Err stop) old new refl says.carries;
   counts = tt;
   tally_is = tt;
 }
 
-pub told_memory : (reasons : Subject → Reasons) (shown : Shown) (name : List ℕ) (tally : Tally) (line : Placed) (lines : List Placed) (stop : RunFault) (now : Printer) (before after : Counts)
-    → stop ≡ run_fault_of name causes.NoMemory → Told reasons shown name tally (line ∷ lines) (Err stop) now now before after
-told_memory reasons shown name tally line lines stop now before after is = record {
-  carries = carries_more {A = Tally} (line_item reasons (within tally shown) name line.number line.outcome ∷ []) (lines_items reasons shown name (tallied tally (kind_of reasons line.outcome)) lines) stop now now
-      (withheld (line_item reasons (within tally shown) name line.number line.outcome) name stop now (line_named reasons (within tally shown) name line.number line.outcome) is);
+pub told_memory : (answers : Subject → Answer) (shown : Shown) (name : List ℕ) (tally : Tally) (line : Placed) (lines : List Placed) (stop : RunFault) (now : Printer) (before after : Counts)
+    → stop ≡ run_fault_of name causes.NoMemory → Told answers shown name tally (line ∷ lines) (Err stop) now now before after
+told_memory answers shown name tally line lines stop now before after is = record {
+  carries = carries_more {A = Tally} (line_item answers (within tally shown) name line.number line.outcome ∷ []) (lines_items answers shown name (tallied tally (kind_of answers line.outcome)) lines) stop now now
+      (withheld (line_item answers (within tally shown) name line.number line.outcome) name stop now (line_named answers (within tally shown) name line.number line.outcome) is);
   counts = tt;
   tally_is = tt;
 }
 
 -- ---- some lines after others
 
-items_append : (reasons : Subject → Reasons) (shown : Shown) (name : List ℕ) (tally : Tally) (xs ys : List Placed)
-    → lines_items reasons shown name tally (xs ++ ys) ≡ lines_items reasons shown name tally xs ++ lines_items reasons shown name (all_tallied tally (kinds_of reasons xs)) ys
-items_append reasons shown name tally [] ys = refl
-items_append reasons shown name tally (x ∷ xs) ys =
-    ap (λ (items : List Item). line_item reasons (within tally shown) name x.number x.outcome ∷ items) (items_append reasons shown name (tallied tally (kind_of reasons x.outcome)) xs ys)
+items_append : (answers : Subject → Answer) (shown : Shown) (name : List ℕ) (tally : Tally) (xs ys : List Placed)
+    → lines_items answers shown name tally (xs ++ ys) ≡ lines_items answers shown name tally xs ++ lines_items answers shown name (all_tallied tally (kinds_of answers xs)) ys
+items_append answers shown name tally [] ys = refl
+items_append answers shown name tally (x ∷ xs) ys =
+    ap (λ (items : List Item). line_item answers (within tally shown) name x.number x.outcome ∷ items) (items_append answers shown name (tallied tally (kind_of answers x.outcome)) xs ys)
 
-tally_append : (reasons : Subject → Reasons) (tally : Tally) (xs ys : List Placed) → all_tallied tally (kinds_of reasons (xs ++ ys)) ≡ all_tallied (all_tallied tally (kinds_of reasons xs)) (kinds_of reasons ys)
-tally_append reasons tally [] ys = refl
-tally_append reasons tally (x ∷ xs) ys = tally_append reasons (tallied tally (kind_of reasons x.outcome)) xs ys
+tally_append : (answers : Subject → Answer) (tally : Tally) (xs ys : List Placed) → all_tallied tally (kinds_of answers (xs ++ ys)) ≡ all_tallied (all_tallied tally (kinds_of answers xs)) (kinds_of answers ys)
+tally_append answers tally [] ys = refl
+tally_append answers tally (x ∷ xs) ys = tally_append answers (tallied tally (kind_of answers x.outcome)) xs ys
 
-counted_append : (reasons : Subject → Reasons) (before : Counts) (xs ys : List Placed) → all_counted before (kinds_of reasons (xs ++ ys)) ≡ all_counted (all_counted before (kinds_of reasons xs)) (kinds_of reasons ys)
-counted_append reasons before [] ys = refl
-counted_append reasons before (x ∷ xs) ys = counted_append reasons (counted before (kind_of reasons x.outcome)) xs ys
+counted_append : (answers : Subject → Answer) (before : Counts) (xs ys : List Placed) → all_counted before (kinds_of answers (xs ++ ys)) ≡ all_counted (all_counted before (kinds_of answers xs)) (kinds_of answers ys)
+counted_append answers before [] ys = refl
+counted_append answers before (x ∷ xs) ys = counted_append answers (counted before (kind_of answers x.outcome)) xs ys
 
 on_ok : {A : Type 0} (result : Result A RunFault) (after one other : Counts) → one ≡ other → OnOk result (after ≡ one) → OnOk result (after ≡ other)
 on_ok (Ok done) after one other same is = is ∙ same
@@ -106,28 +106,28 @@ if_ok : (result : Result Tally RunFault) (one other : Tally) → one ≡ other �
 if_ok (Ok now) one other same is = is ∙ same
 if_ok (Err stop) one other same is = tt
 
-pub told_none : (reasons : Subject → Reasons) (shown : Shown) (name : List ℕ) (tally : Tally) (now : Printer) (counts : Counts) → Told reasons shown name tally [] (Ok tally) now now counts counts
-told_none reasons shown name tally now counts = record { carries = carries_none tally now; counts = refl; tally_is = refl }
+pub told_none : (answers : Subject → Answer) (shown : Shown) (name : List ℕ) (tally : Tally) (now : Printer) (counts : Counts) → Told answers shown name tally [] (Ok tally) now now counts counts
+told_none answers shown name tally now counts = record { carries = carries_none tally now; counts = refl; tally_is = refl }
 
-pub told_then : (reasons : Subject → Reasons) (shown : Shown) (name : List ℕ) (tally : Tally) (xs ys : List Placed) (value : Tally) (result : Result Tally RunFault) (old mid new : Printer) (before between after : Counts)
-    → Told reasons shown name tally xs (Ok value) old mid before between → Told reasons shown name value ys result mid new between after
-    → Told reasons shown name tally (xs ++ ys) result old new before after
-told_then reasons shown name tally xs ys value result old mid new before between after first later =
-    let mid_tally : Tally = all_tallied tally (kinds_of reasons xs) in
-    let rest : Told reasons shown name mid_tally ys result mid new between after = subst (λ (t : Tally). Told reasons shown name t ys result mid new between after) first.tally_is later in
+pub told_then : (answers : Subject → Answer) (shown : Shown) (name : List ℕ) (tally : Tally) (xs ys : List Placed) (value : Tally) (result : Result Tally RunFault) (old mid new : Printer) (before between after : Counts)
+    → Told answers shown name tally xs (Ok value) old mid before between → Told answers shown name value ys result mid new between after
+    → Told answers shown name tally (xs ++ ys) result old new before after
+told_then answers shown name tally xs ys value result old mid new before between after first later =
+    let mid_tally : Tally = all_tallied tally (kinds_of answers xs) in
+    let rest : Told answers shown name mid_tally ys result mid new between after = subst (λ (t : Tally). Told answers shown name t ys result mid new between after) first.tally_is later in
     record {
-      carries = subst (λ (items : List Item). Carries items result old new) (sym (items_append reasons shown name tally xs ys))
-          (carries_then (lines_items reasons shown name tally xs) (lines_items reasons shown name mid_tally ys) value result old mid new first.carries rest.carries);
-      counts = on_ok result after (all_counted between (kinds_of reasons ys)) (all_counted before (kinds_of reasons (xs ++ ys)))
-          (ap (λ (c : Counts). all_counted c (kinds_of reasons ys)) first.counts ∙ sym (counted_append reasons before xs ys)) rest.counts;
-      tally_is = if_ok result (all_tallied mid_tally (kinds_of reasons ys)) (all_tallied tally (kinds_of reasons (xs ++ ys))) (sym (tally_append reasons tally xs ys)) rest.tally_is;
+      carries = subst (λ (items : List Item). Carries items result old new) (sym (items_append answers shown name tally xs ys))
+          (carries_then (lines_items answers shown name tally xs) (lines_items answers shown name mid_tally ys) value result old mid new first.carries rest.carries);
+      counts = on_ok result after (all_counted between (kinds_of answers ys)) (all_counted before (kinds_of answers (xs ++ ys)))
+          (ap (λ (c : Counts). all_counted c (kinds_of answers ys)) first.counts ∙ sym (counted_append answers before xs ys)) rest.counts;
+      tally_is = if_ok result (all_tallied mid_tally (kinds_of answers ys)) (all_tallied tally (kinds_of answers (xs ++ ys))) (sym (tally_append answers tally xs ys)) rest.tally_is;
     }
 
-pub told_stop : (reasons : Subject → Reasons) (shown : Shown) (name : List ℕ) (tally : Tally) (xs ys : List Placed) (stop : RunFault) (old new : Printer) (before after other : Counts)
-    → Told reasons shown name tally xs (Err stop) old new before after → Told reasons shown name tally (xs ++ ys) (Err stop) old new before other
-told_stop reasons shown name tally xs ys stop old new before after other first = record {
-  carries = subst (λ (items : List Item). Carries {A = Tally} items (Err stop) old new) (sym (items_append reasons shown name tally xs ys))
-      (carries_more {A = Tally} (lines_items reasons shown name tally xs) (lines_items reasons shown name (all_tallied tally (kinds_of reasons xs)) ys) stop old new first.carries);
+pub told_stop : (answers : Subject → Answer) (shown : Shown) (name : List ℕ) (tally : Tally) (xs ys : List Placed) (stop : RunFault) (old new : Printer) (before after other : Counts)
+    → Told answers shown name tally xs (Err stop) old new before after → Told answers shown name tally (xs ++ ys) (Err stop) old new before other
+told_stop answers shown name tally xs ys stop old new before after other first = record {
+  carries = subst (λ (items : List Item). Carries {A = Tally} items (Err stop) old new) (sym (items_append answers shown name tally xs ys))
+      (carries_more {A = Tally} (lines_items answers shown name tally xs) (lines_items answers shown name (all_tallied tally (kinds_of answers xs)) ys) stop old new first.carries);
   counts = tt;
   tally_is = tt;
 }

@@ -1,7 +1,8 @@
 -- Auditing files: the findings of their lines, and the counts.
 use Rattle.std.specs.Borrow.{Bor}
 use Rattle.std.specs.Prelude.{◌≡◌, ℕ, ◌-◌, ◌&&◌, Bool, true, false, List, [], ◌∷◌, ◌++◌}
-use Rattle.std.specs.Prelude.{IfOk, is_some, map, nat_lt, OnOk, Option, Some, None, Result, Ok, Err}
+use Rattle.std.specs.Prelude.{IfOk, is_some, map, nat_lt, OnOk, Option, option_map, Some, None}
+use Rattle.std.specs.Prelude.{Result, Ok, Err}
 use Rattle.key_text.specs.declared.marker.Marker.{Marker}
 use Rattle.key_text.specs.declared.marker.Marker.TheVariants as markers
 use Rattle.krl_types.specs.Subject.{Subject}
@@ -9,6 +10,7 @@ use Rattle.krl_types.specs.Entry.{Entry}
 use Rattle.krl_entries.specs.Reasons.{any_reason, has_reason, held_reasons, reasons_of}
 use Rattle.krl_entries.specs.Revocations.{Means, Revocations}
 use Rattle.krl_entries.specs.declared.reasons.Reason.TheVariants.{Key as reason_of_key}
+use Rattle.audit_text.specs.Answer.{Answer}
 use Rattle.krl_entries.specs.declared.reasons.Reasons.{Reasons}
 use Rattle.run_faults.specs.RunFault.{RunFault}
 use Rattle.run_output.specs.Carries.{Carries}
@@ -24,6 +26,10 @@ use Rattle.audit_text.specs.Said.{key_said, unread_said}
 use Rattle.audit_lines.specs.Outcome.{Empty, Key, Outcome, Outcomes, Placed}
 use Rattle.audit_lines.specs.Outcome.{Unread, place, placed_from, plain_lines, private_lines}
 use Rattle.krl_audit.specs.Tally.{all_tallied, most, none_yet, tallied, within}
+use Rattle.text_index.specs.Explaining.{explained_by}
+use Rattle.text_index.specs.Indexing.{Indexes}
+use Rattle.text_index.specs.NamingLines.{NamingLine}
+use Rattle.text_index.specs.declared.indexing.TextIndex.{TextIndex}
 use Rattle.krl_audit.specs.declared.auditor.Auditor.{Auditor}
 use Rattle.krl_audit.specs.declared.counts.Counts.{Counts}
 use Rattle.audit_text.specs.declared.line_kind.LineKind.{LineKind}
@@ -49,10 +55,10 @@ key_kind (Some markers.Authority) revoked = revoked_or_fine revoked
 key_kind None revoked = revoked_or_fine revoked
 
 -- the kind of a line
-abbrev pub kind_of : (Subject → Reasons) → Outcome → LineKind
-kind_of reasons Empty = kinds.Empty
-kind_of reasons (Key found) = key_kind found.marker (any_reason (reasons found.asked))
-kind_of reasons (Unread why) = kinds.Unread
+abbrev pub kind_of : (Subject → Answer) → Outcome → LineKind
+kind_of answers Empty = kinds.Empty
+kind_of answers (Key found) = key_kind found.marker (any_reason (answers found.asked).reasons)
+kind_of answers (Unread why) = kinds.Unread
 
 -- whether a line of this kind is printed
 abbrev pub says : Shown → LineKind → Bool
@@ -63,21 +69,21 @@ says shown kinds.Revoked = shown.revoked
 says shown kinds.Unread = shown.unread
 
 -- the line that is printed for an outcome
-abbrev pub outcome_line : Format → (Subject → Reasons) → List ℕ → ℕ → Outcome → List ℕ
-outcome_line form reasons name number Empty = []
-outcome_line form reasons name number (Key found) =
-    key_said form name number found (reasons found.asked)
-outcome_line form reasons name number (Unread why) = unread_said form name number why
+abbrev pub outcome_line : Format → (Subject → Answer) → List ℕ → ℕ → Outcome → List ℕ
+outcome_line form answers name number Empty = []
+outcome_line form answers name number (Key found) =
+    key_said form name number found (answers found.asked)
+outcome_line form answers name number (Unread why) = unread_said form name number why
 
 abbrev pub said_if : Bool → List ℕ → List ℕ → Item
 said_if true name text = said_of name text
 said_if false name text = Passed name
 
 -- the item of a line
-abbrev pub line_item : (Subject → Reasons) → Shown → List ℕ → ℕ → Outcome → Item
-line_item reasons shown name number outcome =
-    said_if (says shown (kind_of reasons outcome)) name
-    (outcome_line shown.format reasons name number outcome)
+abbrev pub line_item : (Subject → Answer) → Shown → List ℕ → ℕ → Outcome → Item
+line_item answers shown name number outcome =
+    said_if (says shown (kind_of answers outcome)) name
+    (outcome_line shown.format answers name number outcome)
 
 -- ---- files
 
@@ -103,11 +109,11 @@ file_lines name (Ok text) = text_lines (begins_container text) name text
 -- ---- the items of a file
 
 -- the items of lines after these lines of their file
-abbrev pub lines_items : (Subject → Reasons) → Shown → List ℕ → Tally → List Placed → List Item
-lines_items reasons shown name tally [] = []
-lines_items reasons shown name tally (line ∷ lines) =
-    line_item reasons (within tally shown) name line.number line.outcome
-    ∷ lines_items reasons shown name (tallied tally (kind_of reasons line.outcome)) lines
+abbrev pub lines_items : (Subject → Answer) → Shown → List ℕ → Tally → List Placed → List Item
+lines_items answers shown name tally [] = []
+lines_items answers shown name tally (line ∷ lines) =
+    line_item answers (within tally shown) name line.number line.outcome
+    ∷ lines_items answers shown name (tallied tally (kind_of answers line.outcome)) lines
 
 -- how many lines of a kind there are, beyond those that are printed one by one
 abbrev pub more_item : Shown → List ℕ → LineKind → ℕ → Item
@@ -122,28 +128,28 @@ rest_items shown name tally =
     ∷ more_item shown name kinds.Unread tally.unread
     ∷ more_item shown name kinds.Fine tally.fine ∷ []
 
-abbrev pub kinds_of : (Subject → Reasons) → List Placed → List LineKind
-kinds_of reasons lines = map (λ line. kind_of reasons line.outcome) lines
+abbrev pub kinds_of : (Subject → Answer) → List Placed → List LineKind
+kinds_of answers lines = map (λ line. kind_of answers line.outcome) lines
 
 -- the items of a file, and the kinds of lines that are counted
-unfoldable pub file_items : (Subject → Reasons) → Shown → List ℕ → Result (List ℕ) Refusal
+unfoldable pub file_items : (Subject → Answer) → Shown → List ℕ → Result (List ℕ) Refusal
     → List Item
-file_items reasons shown name content =
+file_items answers shown name content =
     let lines = file_lines name content in
-    lines_items reasons shown name none_yet lines
-    ++ rest_items shown name (all_tallied none_yet (kinds_of reasons lines))
+    lines_items answers shown name none_yet lines
+    ++ rest_items shown name (all_tallied none_yet (kinds_of answers lines))
 
-unfoldable pub file_kinds : (Subject → Reasons) → List ℕ → Result (List ℕ) Refusal
+unfoldable pub file_kinds : (Subject → Answer) → List ℕ → Result (List ℕ) Refusal
     → List LineKind
-file_kinds reasons name content = kinds_of reasons (file_lines name content)
+file_kinds answers name content = kinds_of answers (file_lines name content)
 
 -- ---- the line that was made for an outcome
 
-pub record IsMade (reasons : Subject → Reasons) (shown : Shown) (name : List ℕ) (number : ℕ)
+pub record IsMade (answers : Subject → Answer) (shown : Shown) (name : List ℕ) (number : ℕ)
     (outcome : Outcome) (kind : LineKind) (said : Bool) (text : List ℕ) : Type 0 where
-  pub kind_is : kind ≡ kind_of reasons outcome
+  pub kind_is : kind ≡ kind_of answers outcome
   pub said_is : said ≡ says shown kind
-  pub text_is : said ≡ true → text ≡ outcome_line shown.format reasons name number outcome
+  pub text_is : said ≡ true → text ≡ outcome_line shown.format answers name number outcome
 
 -- the bytes of a file, or why there are none
 abbrev pub content_of : Result (Bor (List ℕ)) Refusal → Result (List ℕ) Refusal
@@ -165,9 +171,35 @@ reasons_beside (Some canaries) list asked =
 abbrev pub judged_reasons : Judge → Subject → Reasons
 judged_reasons judge asked = reasons_beside judge.canaries judge.list.now asked
 
--- The list gives these reasons, but for canaries.
-abbrev pub JudgesAs : Judge → (Subject → Reasons) → Type 0
-JudgesAs judge reasons = (asked : Subject) → judged_reasons judge asked ≡ reasons asked
+-- The index, if there is one, has exactly these lines.
+abbrev pub AreIndexed : Option (Bor TextIndex) → Option (List NamingLine) → Type 0
+AreIndexed None None = Unit {0}
+AreIndexed None (Some lines) = ⊥
+AreIndexed (Some index) None = ⊥
+AreIndexed (Some index) (Some lines) = Indexes index.now lines
+
+-- The index, if there is one, is that of texts without a fault.
+abbrev pub IsUsable : Option (Bor TextIndex) → Type 0
+IsUsable None = Unit {0}
+IsUsable (Some index) = (lines : List NamingLine) × Indexes index.now lines
+
+-- these reasons, and which of the lines give them
+abbrev pub answer_by : Option (List NamingLine) → Subject → Reasons → Answer
+answer_by texts asked reasons = record {
+  reasons = reasons;
+  explained = option_map (λ lines. explained_by lines asked reasons) texts;
+}
+
+-- A list gives these reasons, but for canaries, and the texts explain them so.
+pub record AnswersAs (canaries : Option (Bor Revocations)) (list : Revocations)
+    (index : Option (Bor TextIndex)) (answers : Subject → Answer) : Type 0 where
+  pub texts : Option (List NamingLine)
+  pub indexed : AreIndexed index texts
+  pub answers_are : (asked : Subject)
+      → answer_by texts asked (reasons_beside canaries list asked) ≡ answers asked
+
+abbrev pub JudgesAs : Judge → (Subject → Answer) → Type 0
+JudgesAs judge answers = AnswersAs judge.canaries judge.list.now judge.texts answers
 
 -- ---- what entries mean
 
@@ -178,6 +210,12 @@ reasons_but (Some canaries) entries =
     λ asked. reasons_unless (has_reason (reasons_of canaries asked) reason_of_key)
     (reasons_of entries asked)
 
+-- the same reasons, and which of the lines give them
+abbrev pub answers_but : Option (List Entry) → List Entry → Option (List NamingLine) → Subject
+    → Answer
+answers_but canaries entries texts asked =
+    answer_by texts asked (reasons_but canaries entries asked)
+
 -- These entries have the keys that are canaries.
 abbrev pub MeanCanaries : Option (Bor Revocations) → Option (List Entry) → Type 0
 MeanCanaries None None = Unit {0}
@@ -187,34 +225,34 @@ MeanCanaries (Some held) (Some entries) = Means held.now entries
 
 -- The line was printed if it is to be printed, and this is its kind; or the audit was stopped at
 -- it.
-pub record SaysLine (reasons : Subject → Reasons) (shown : Shown) (name : List ℕ) (line : Placed)
+pub record SaysLine (answers : Subject → Answer) (shown : Shown) (name : List ℕ) (line : Placed)
     (result : Result LineKind RunFault) (old new : Printer) : Type 0 where
-  pub carries : Carries (line_item reasons shown name line.number line.outcome ∷ []) result old new
-  pub kind_is : IfOk result (λ kind. kind ≡ kind_of reasons line.outcome)
+  pub carries : Carries (line_item answers shown name line.number line.outcome ∷ []) result old new
+  pub kind_is : IfOk result (λ kind. kind ≡ kind_of answers line.outcome)
 
 -- Exactly the items of these lines were printed after the earlier ones, and all lines were counted;
 -- or the audit was stopped within them. Before them their file had lines of these numbers.
-pub record Told (reasons : Subject → Reasons) (shown : Shown) (name : List ℕ) (tally : Tally)
+pub record Told (answers : Subject → Answer) (shown : Shown) (name : List ℕ) (tally : Tally)
     (lines : List Placed) (result : Result Tally RunFault) (old new : Printer)
     (before after : Counts) : Type 0 where
-  pub carries : Carries (lines_items reasons shown name tally lines) result old new
-  pub counts : OnOk result (after ≡ all_counted before (kinds_of reasons lines))
-  pub tally_is : IfOk result (λ now. now ≡ all_tallied tally (kinds_of reasons lines))
+  pub carries : Carries (lines_items answers shown name tally lines) result old new
+  pub counts : OnOk result (after ≡ all_counted before (kinds_of answers lines))
+  pub tally_is : IfOk result (λ now. now ≡ all_tallied tally (kinds_of answers lines))
 
--- The same for an auditor, by the reasons that its list gives.
+-- The same for an auditor, by the answers that its list and its texts give.
 abbrev pub Tells : {W : Type 0} → Auditor W → List ℕ → Tally → List Placed
     → Result Tally RunFault → Auditor W → Type 0
 Tells old name tally lines result new =
-    (reasons : Subject → Reasons) → JudgesAs old.judge reasons
-    → Told reasons old.judge.shown name tally lines result old.run.printer new.run.printer
+    (answers : Subject → Answer) → JudgesAs old.judge answers
+    → Told answers old.judge.shown name tally lines result old.run.printer new.run.printer
     old.counts new.counts
 
 -- The same for a file.
-pub record ToldFile (reasons : Subject → Reasons) (shown : Shown) (name : List ℕ)
+pub record ToldFile (answers : Subject → Answer) (shown : Shown) (name : List ℕ)
     (content : Result (List ℕ) Refusal) (result : Result (Unit {0}) RunFault) (old new : Printer)
     (before after : Counts) : Type 0 where
-  pub carries : Carries (file_items reasons shown name content) result old new
-  pub counts : OnOk result (after ≡ all_counted before (file_kinds reasons name content))
+  pub carries : Carries (file_items answers shown name content) result old new
+  pub counts : OnOk result (after ≡ all_counted before (file_kinds answers name content))
 
 -- The audit ended as a run over its items does, with the status of its counts.
 pub record EndsAudit (run : List Item) (counts : Counts) (before after : Option (List ℕ))

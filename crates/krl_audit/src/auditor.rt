@@ -8,7 +8,7 @@ ghost use Rattle.run_output.specs.Carries.{Carries, Reaches};
 ghost use Rattle.run_output.specs.Run.{Item, said_of};
 ghost use Rattle.json_lines.specs.Field.{json_line};
 ghost use Rattle.krl_types.specs.Subject.{Subject as SubjectOf};
-ghost use Rattle.krl_entries.specs.declared.reasons.Reasons.{Reasons as ReasonsOf};
+ghost use Rattle.audit_text.specs.Answer.{Answer as AnswerOf};
 ghost use Rattle.krl_audit.specs.Audit.{EndsAudit, JudgesAs, Tells, ToldFile, SaysLine, content_of};
 ghost use Rattle.krl_audit.specs.Audit.{file_lines, more_item, text_lines};
 ghost use Rattle.krl_audit.specs.Audit.{rest_items, said_if, whole};
@@ -60,8 +60,8 @@ impl<'q, 'w, W: Sink> Auditor<'q, 'w, W> {
         name: &'a str,
         content: Result<&[u8], Refusal>,
     ) -> Result<(), RunFault<'a>>
-        ensures told { (reasons : SubjectOf → ReasonsOf) → JudgesAs self.old.judge reasons
-            → ToldFile reasons self.old.judge.shown name.now (content_of content.entry)
+        ensures told { (answers : SubjectOf → AnswerOf) → JudgesAs self.old.judge answers
+            → ToldFile answers self.old.judge.shown name.now (content_of content.entry)
             result self.old.run.printer self.new.run.printer self.old.counts self.new.counts }
         ensures judge { self.new.judge ≡ self.old.judge }
     {
@@ -217,8 +217,8 @@ impl<'q, 'w, W: Sink> Auditor<'q, 'w, W> {
         outcome: &Outcome<'_>,
     ) -> Result<LineKind, RunFault<'a>>
         ensures said { (given : OutcomeOf) → GivesOutcome outcome.now given
-            → (reasons : SubjectOf → ReasonsOf) → JudgesAs self.old.judge reasons
-            → SaysLine reasons shown location.entry.name.now
+            → (answers : SubjectOf → AnswerOf) → JudgesAs self.old.judge answers
+            → SaysLine answers shown location.entry.name.now
             (place location.entry.number given) result self.old.run.printer
             self.new.run.printer }
         ensures judge { self.new.judge ≡ self.old.judge }
@@ -228,6 +228,7 @@ impl<'q, 'w, W: Sink> Auditor<'q, 'w, W> {
         let judge = Judge {
             list: self.judge.list,
             canaries: self.judge.canaries,
+            texts: self.judge.texts,
             shown,
         };
         let made = match judge.judge(alloc, location, outcome, &mut self.run.line) {

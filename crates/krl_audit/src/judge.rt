@@ -1,9 +1,12 @@
 //! The answer of a list for a key, and whether it is printed.
 
-ghost use Rattle.std.specs.Prelude.{◌≡◌, IfOk};
+ghost use Rattle.std.specs.Prelude.{◌≡◌, IfOk, List, Option, option_map};
+ghost use Rattle.text_index.specs.Explaining.{explained_by, explained_of};
+ghost use Rattle.text_index.specs.NamingLines.{NamingLine};
 ghost use Rattle.krl_types.specs.Subject.{Subject as SubjectOf};
-ghost use Rattle.krl_entries.specs.declared.reasons.Reasons.{Reasons as ReasonsOf};
-ghost use Rattle.krl_audit.specs.Audit.{IsMade, JudgesAs, judged_reasons, key_kind, says};
+ghost use Rattle.audit_text.specs.Answer.{Answer as AnswerOf};
+ghost use Rattle.krl_audit.specs.Audit.{AreIndexed, IsMade, JudgesAs, judged_reasons, key_kind};
+ghost use Rattle.krl_audit.specs.Audit.{says};
 ghost use Rattle.audit_lines.specs.Outcome.{GivesOutcome, Outcome as OutcomeOf, Unread};
 ghost use Rattle.audit_lines.specs.declared.outcome.Outcome.TheVariants.{Key};
 
@@ -16,6 +19,7 @@ use run_faults::KeyCause;
 use span_sets::Held;
 use ssh_cert::read_any;
 use std::alloc::{AllocError, Global};
+use text_index::{Explanation, TextIndex};
 
 /// Which findings are printed, and how.
 #[derive(Clone, Copy)]
@@ -37,6 +41,8 @@ pub struct Judge<'q> {
     pub list: &'q Revocations<Held>,
     /// Keys that the list revokes on purpose: they are no findings.
     pub canaries: Option<&'q Revocations<Held>>,
+    /// The texts whose lines explain the findings, if any are given.
+    pub texts: Option<&'q TextIndex<'q>>,
     /// Which findings are printed.
     pub shown: Shown,
 }
@@ -57,9 +63,9 @@ impl<'q> Judge<'q> {
         outcome: &Outcome<'_>,
         line: &mut Vec<u8>,
     ) -> Result<JudgedLine, AllocError>
-        ensures { (reasons : SubjectOf → ReasonsOf) → JudgesAs self.now reasons
+        ensures { (answers : SubjectOf → AnswerOf) → JudgesAs self.now answers
             → (given : OutcomeOf) → GivesOutcome outcome.now given
-            → IfOk result (λ made. IsMade reasons self.now.shown location.entry.name.now
+            → IfOk result (λ made. IsMade answers self.now.shown location.entry.name.now
             location.entry.number given made.kind made.said line.new.items) }
     {
         match outcome {
@@ -80,7 +86,7 @@ impl<'q> Judge<'q> {
         why: Why,
         line: &mut Vec<u8>,
     ) -> Result<JudgedLine, AllocError>
-        ensures { (reasons : SubjectOf → ReasonsOf) → IfOk result (λ made. IsMade reasons
+        ensures { (answers : SubjectOf → AnswerOf) → IfOk result (λ made. IsMade answers
             self.now.shown location.entry.name.now location.entry.number (Unread why) made.kind
             made.said line.new.items) }
     {
@@ -102,9 +108,9 @@ impl<'q> Judge<'q> {
         found: &Found<'_>,
         line: &mut Vec<u8>,
     ) -> Result<JudgedLine, AllocError>
-        ensures { (reasons : SubjectOf → ReasonsOf) → JudgesAs self.now reasons
+        ensures { (answers : SubjectOf → AnswerOf) → JudgesAs self.now answers
             → (given : OutcomeOf) → GivesOutcome (Key found.now) given
-            → IfOk result (λ made. IsMade reasons self.now.shown location.entry.name.now
+            → IfOk result (λ made. IsMade answers self.now.shown location.entry.name.now
             location.entry.number given made.kind made.said line.new.items) }
     {
         let any = match read_any(found.blob.as_slice()) {
@@ -121,14 +127,33 @@ impl<'q> Judge<'q> {
         let kind = key_kind(found.marker, reasons.any());
         let said = says(self.shown, kind);
         if said {
+            let explanation = self.explanation(alloc, &subject, reasons)?;
             let verdict = Verdict {
                 found,
                 subject: &subject,
                 reasons,
+                explanation: &explanation,
             };
             say_key(alloc, self.shown.format, location, &verdict, line)?;
         }
         Ok(JudgedLine { kind, said })
+    }
+
+    // The lines of the texts that give the reasons for a key, if texts are given.
+    fn explanation(
+        &self,
+        alloc: Global,
+        subject: &Subject<'_>,
+        reasons: Reasons,
+    ) -> Result<Option<Explanation<'q>>, AllocError>
+        ensures { IfOk result (λ given. (texts : Option (List NamingLine))
+            → AreIndexed self.now.texts texts → option_map explained_of given
+            ≡ option_map (λ lines. explained_by lines subject.now reasons) texts) }
+    {
+        match self.texts {
+            None => Ok(None),
+            Some(texts) => Ok(Some(texts.explain(alloc, subject, reasons)?)),
+        }
     }
 
     // Why the list revokes a key, unless it is a canary.

@@ -11,6 +11,7 @@ use Rattle.krl_audit.specs.Counts.{all_counted}
 use Rattle.audit_lines.specs.Front.{fronts_of}
 use Rattle.audit_lines.specs.Keyless.{keyless_lines, keyless_unless}
 use Rattle.audit_lines.specs.Outcome.{Empty, Found, Key, Outcome, Outcomes, Placed, Unread, plain_lines}
+use Rattle.audit_text.specs.Answer.{Answer, unexplained}
 use Rattle.audit_text.specs.declared.line_kind.LineKind.{LineKind}
 use Rattle.audit_text.specs.declared.line_kind.LineKind.TheVariants as kinds
 use Rattle.list_conditions.specs.Check.{counts_of, none_counted, with_unread}
@@ -18,30 +19,30 @@ use Rattle.list_conditions.specs.Role.{AreMarked, HasKey, IsMarked, IsMarkedKey,
 use Rattle.list_conditions.specs.declared.role.Role.TheVariants as roles
 use Rattle.list_conditions.proofs.Counting.{law}
 
-pub distrusted : (reasons : Subject → Reasons) (found : Found) → found.marker ≡ Some markers.Revoked → kind_of reasons (Key found) ≡ kinds.Distrusted
-distrusted reasons found is = rw is refl
+pub distrusted : (answers : Subject → Answer) (found : Found) → found.marker ≡ Some markers.Revoked → kind_of answers (Key found) ≡ kinds.Distrusted
+distrusted answers found is = rw is refl
 
 -- ---- the lines
 
-may_be : (reasons : Subject → Reasons) (outcome : Outcome) → IsMarked outcome → MayBe roles.Keep (kind_of reasons outcome)
-may_be reasons Empty marked = tt
-may_be reasons (Key found) marked = subst (λ (kind : LineKind). MayBe roles.Keep kind) (sym (distrusted reasons found marked)) tt
-may_be reasons (Unread why) marked = absurd marked
+may_be : (answers : Subject → Answer) (outcome : Outcome) → IsMarked outcome → MayBe roles.Keep (kind_of answers outcome)
+may_be answers Empty marked = tt
+may_be answers (Key found) marked = subst (λ (kind : LineKind). MayBe roles.Keep kind) (sym (distrusted answers found marked)) tt
+may_be answers (Unread why) marked = absurd marked
 
-all_may_be : (reasons : Subject → Reasons) (lines : List Placed) → AreMarked lines → AllByRecursion (MayBe roles.Keep) (kinds_of reasons lines)
-all_may_be reasons [] marked = tt
-all_may_be reasons (line ∷ lines) marked = (may_be reasons line.outcome marked.0, all_may_be reasons lines marked.1)
+all_may_be : (answers : Subject → Answer) (lines : List Placed) → AreMarked lines → AllByRecursion (MayBe roles.Keep) (kinds_of answers lines)
+all_may_be answers [] marked = tt
+all_may_be answers (line ∷ lines) marked = (may_be answers line.outcome marked.0, all_may_be answers lines marked.1)
 
 -- a marked key is no canary
-no_canary : (reasons : Subject → Reasons) (outcome : Outcome) → IsMarkedKey outcome → MayBe roles.Canary (kind_of reasons outcome) → ⊥
-no_canary reasons Empty marked may = marked
-no_canary reasons (Key found) marked may = subst (λ (kind : LineKind). MayBe roles.Canary kind) (distrusted reasons found marked) may
-no_canary reasons (Unread why) marked may = marked
+no_canary : (answers : Subject → Answer) (outcome : Outcome) → IsMarkedKey outcome → MayBe roles.Canary (kind_of answers outcome) → ⊥
+no_canary answers Empty marked may = marked
+no_canary answers (Key found) marked may = subst (λ (kind : LineKind). MayBe roles.Canary kind) (distrusted answers found marked) may
+no_canary answers (Unread why) marked may = marked
 
-no_canaries : (reasons : Subject → Reasons) (lines : List Placed) → SomeMarked lines → AllByRecursion (MayBe roles.Canary) (kinds_of reasons lines) → ⊥
-no_canaries reasons [] some all = some
-no_canaries reasons (line ∷ lines) (inl marked) all = no_canary reasons line.outcome marked all.0
-no_canaries reasons (line ∷ lines) (inr later) all = no_canaries reasons lines later all.1
+no_canaries : (answers : Subject → Answer) (lines : List Placed) → SomeMarked lines → AllByRecursion (MayBe roles.Canary) (kinds_of answers lines) → ⊥
+no_canaries answers [] some all = some
+no_canaries answers (line ∷ lines) (inl marked) all = no_canary answers line.outcome marked all.0
+no_canaries answers (line ∷ lines) (inr later) all = no_canaries answers lines later all.1
 
 -- ---- a file
 
@@ -59,33 +60,33 @@ line_by_line : (container : Bool) (name text : List ℕ) → IsByLines (text_lin
 line_by_line true name text is = refl
 line_by_line false name text is = not_whole (keyless (plain_lines (fronts_of name) text)) (plain_lines (fronts_of name) text) is
 
-counts_are : (reasons : Subject → Reasons) (name text : List ℕ) → IsByLines (file_lines name (Ok text)) → counts_of reasons name (Ok text) ≡ all_counted none_counted (kinds_of reasons (file_lines name (Ok text)))
+counts_are : (reasons : Subject → Reasons) (name text : List ℕ) → IsByLines (file_lines name (Ok text)) → counts_of reasons name (Ok text) ≡ all_counted none_counted (kinds_of (unexplained reasons) (file_lines name (Ok text)))
 unfolding file_lines keyless_lines file_kinds
 counts_are reasons name text is =
-    ap (λ (count : Option ℕ). with_unread count (all_counted none_counted (file_kinds reasons name (Ok text)))) (line_by_line (begins_container text) name text is)
+    ap (λ (count : Option ℕ). with_unread count (all_counted none_counted (file_kinds (unexplained reasons) name (Ok text)))) (line_by_line (begins_container text) name text is)
 
 not_true : (b : Bool) → (b ≡ true → ⊥) → b ≡ false
 not_true true never = absurd (never refl)
 not_true false never = refl
 
-as_many : (reasons : Subject → Reasons) (lines : List Placed) → length (kinds_of reasons lines) ≡ length lines
-as_many reasons [] = refl
-as_many reasons (line ∷ lines) = ap suc (as_many reasons lines)
+as_many : (answers : Subject → Answer) (lines : List Placed) → length (kinds_of answers lines) ≡ length lines
+as_many answers [] = refl
+as_many answers (line ∷ lines) = ap suc (as_many answers lines)
 
-fit : (reasons : Subject → Reasons) (lines : List Placed) → length lines + 1 < 2 ^ 64 → length (kinds_of reasons lines) + 1 < 2 ^ 64
-fit reasons lines room = omega (arith, room, as_many reasons lines)
+fit : (answers : Subject → Answer) (lines : List Placed) → length lines + 1 < 2 ^ 64 → length (kinds_of answers lines) + 1 < 2 ^ 64
+fit answers lines room = omega (arith, room, as_many answers lines)
 
-pub keep : (reasons : Subject → Reasons) (name text : List ℕ) → length (file_lines name (Ok text)) + 1 < 2 ^ 64 → AreMarked (file_lines name (Ok text)) → HasKey (file_kinds reasons name (Ok text))
+pub keep : (reasons : Subject → Reasons) (name text : List ℕ) → length (file_lines name (Ok text)) + 1 < 2 ^ 64 → AreMarked (file_lines name (Ok text)) → HasKey (file_kinds (unexplained reasons) name (Ok text))
     → is_met roles.Keep (counts_of reasons name (Ok text)) ≡ true
 unfolding file_kinds
 keep reasons name text room marked some =
     let lines : List Placed = file_lines name (Ok text) in
-    let met : is_met roles.Keep (all_counted none_counted (kinds_of reasons lines)) ≡ true = (law roles.Keep (kinds_of reasons lines) (fit reasons lines room)).1 (all_may_be reasons lines marked, some) in
+    let met : is_met roles.Keep (all_counted none_counted (kinds_of (unexplained reasons) lines)) ≡ true = (law roles.Keep (kinds_of (unexplained reasons) lines) (fit (unexplained reasons) lines room)).1 (all_may_be (unexplained reasons) lines marked, some) in
     ap (is_met roles.Keep) (counts_are reasons name text (inl marked)) ∙ met
 
 pub canary : (reasons : Subject → Reasons) (name text : List ℕ) → length (file_lines name (Ok text)) + 1 < 2 ^ 64 → SomeMarked (file_lines name (Ok text)) → is_met roles.Canary (counts_of reasons name (Ok text)) ≡ false
 canary reasons name text room some =
     let lines : List Placed = file_lines name (Ok text) in
-    let counts = all_counted none_counted (kinds_of reasons lines) in
-    let never : is_met roles.Canary counts ≡ true → ⊥ = λ met. no_canaries reasons lines some ((law roles.Canary (kinds_of reasons lines) (fit reasons lines room)).0 met).0 in
+    let counts = all_counted none_counted (kinds_of (unexplained reasons) lines) in
+    let never : is_met roles.Canary counts ≡ true → ⊥ = λ met. no_canaries (unexplained reasons) lines some ((law roles.Canary (kinds_of (unexplained reasons) lines) (fit (unexplained reasons) lines room)).0 met).0 in
     ap (is_met roles.Canary) (counts_are reasons name text (inr some)) ∙ not_true (is_met roles.Canary counts) never

@@ -17,6 +17,7 @@ use Rattle.krl_audit.specs.Audit.{file_items, file_kinds}
 use Rattle.krl_audit.specs.Counts.{all_counted}
 use Rattle.audit_lines.specs.Keyless.{keyless_lines}
 use Rattle.krl_audit.specs.declared.counts.Counts.{Counts}
+use Rattle.audit_text.specs.Answer.{unexplained}
 use Rattle.audit_text.specs.declared.format.Format.{Format}
 use Rattle.audit_text.specs.declared.format.Format.TheVariants as formats
 use Rattle.audit_lines.specs.declared.why.Refusal.{Refusal}
@@ -85,7 +86,8 @@ lines_counted name (Ok text) counts = with_unread (keyless_lines name text) coun
 -- the counts of a file
 abbrev pub counts_of : (Subject → Reasons) → List ℕ → Result (List ℕ) Refusal → Counts
 counts_of reasons name content =
-    lines_counted name content (all_counted none_counted (file_kinds reasons name content))
+    let kinds = file_kinds (unexplained reasons) name content in
+    lines_counted name content (all_counted none_counted kinds)
 
 -- There may be no memory to count the lines of the file again.
 abbrev pub counts_items : Format → Role → List ℕ → Counts → List Item
@@ -96,7 +98,7 @@ counts_items form role name counts =
 abbrev pub keys_items : Format → Role → (Subject → Reasons) → List ℕ → Result (List ℕ) Refusal
     → List Item
 keys_items form role reasons name content =
-    file_items reasons (shown_for role form) name content
+    file_items (unexplained reasons) (shown_for role form) name content
     ++ counts_items form role name (counts_of reasons name content)
 
 -- The keys of a file were checked, after the earlier checks; or the check was stopped.

@@ -61,6 +61,7 @@ impl<'q, 'w, W: Sink> Checker<'q, 'w, W> {
                 judge: Judge {
                     list,
                     canaries: None,
+                    texts: None,
                     shown,
                 },
                 run: Run {
@@ -130,6 +131,7 @@ impl<'q, 'w, W: Sink> Checker<'q, 'w, W> {
     {
         self.unread |= content.is_err();
         self.auditor.judge.canaries = None;
+        self.auditor.judge.texts = None;
         self.auditor.judge.shown = role.shown(self.auditor.judge.shown.format);
         self.auditor.counts = Counts::NONE;
         self.auditor.audit_file(name, content)?;

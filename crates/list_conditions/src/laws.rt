@@ -6,6 +6,7 @@ ghost use Rattle.key_text.specs.declared.marker.Marker.TheVariants as markers;
 ghost use Rattle.krl_audit.specs.Audit.{file_kinds, file_lines, kind_of};
 ghost use Rattle.krl_audit.specs.Counts.{all_counted};
 ghost use Rattle.audit_lines.specs.Outcome.{Found, Key};
+ghost use Rattle.audit_text.specs.Answer.{Answer, unexplained};
 ghost use Rattle.audit_text.specs.declared.line_kind.LineKind.{LineKind};
 ghost use Rattle.audit_text.specs.declared.line_kind.LineKind.TheVariants as kinds;
 ghost use Rattle.krl_types.specs.Entry.{Entry};
@@ -41,12 +42,13 @@ pub fn counts_are_met_by_lines()
 /// whatever the list revokes. So a file in which all keys are marked passes as one of keys to be
 /// kept, and one with such a key does not pass as one of canaries.
 pub fn marked_keys_count_as_keys()
-    ensures kind { (reasons : Subject → Reasons) (found : Found)
+    ensures kind { (answers : Subject → Answer) (found : Found)
         → found.marker ≡ Some markers.Revoked
-        → kind_of reasons (Key found) ≡ kinds.Distrusted }
+        → kind_of answers (Key found) ≡ kinds.Distrusted }
     ensures keep { (reasons : Subject → Reasons) (name text : List ℕ)
         → length (file_lines name (Ok text)) + 1 < 2 ^ 64
-        → AreMarked (file_lines name (Ok text)) → HasKey (file_kinds reasons name (Ok text))
+        → AreMarked (file_lines name (Ok text))
+        → HasKey (file_kinds (unexplained reasons) name (Ok text))
         → is_met roles.Keep (counts_of reasons name (Ok text)) ≡ true }
     ensures canary { (reasons : Subject → Reasons) (name text : List ℕ)
         → length (file_lines name (Ok text)) + 1 < 2 ^ 64

@@ -25,6 +25,11 @@ abbrev pub letter_value_rule : List ℕ → ℕ → Rule
 letter_value_rule id letter =
     record (new_rule id) { short = Some letter; action = Some Set; value_names = 1 }
 
+-- an option with a value, by its letter, any number of times
+abbrev pub letter_values_rule : List ℕ → ℕ → Rule
+letter_values_rule id letter =
+    record (new_rule id) { short = Some letter; action = Some Append; value_names = 1 }
+
 -- an option with one value, by its letter, that must be given
 abbrev pub needed_rule : List ℕ → ℕ → Rule
 needed_rule id letter = record (new_rule id) {
@@ -72,6 +77,7 @@ version_rule id name = record (new_rule id) { long = Some name; action = Some As
 abbrev pub syntax_rule : List ℕ → Syntax → Rule
 syntax_rule id (syntaxes.Letter letter) = letter_rule id letter
 syntax_rule id (syntaxes.LetterValue letter name) = letter_value_rule id letter
+syntax_rule id (syntaxes.LetterValues letter name) = letter_values_rule id letter
 syntax_rule id (syntaxes.Needed letter name) = needed_rule id letter
 syntax_rule id syntaxes.Long = long_rule id
 syntax_rule id (syntaxes.LongValue name) = long_value_rule id

@@ -27,6 +27,8 @@ pub enum Syntax {
     Letter(char),
     /// By a letter, with a value.
     LetterValue(char, &'static str),
+    /// By a letter, with a value, any number of times.
+    LetterValues(char, &'static str),
     /// By a letter, with a value. It must be given.
     Needed(char, &'static str),
     /// By its id as a long name.
@@ -74,6 +76,10 @@ fn argument_of<'a>(alloc: Global, argument: &Argument) -> Arg<'a>
         Syntax::LetterValue(letter, name) => {
             arg.short(letter).value_name(name).action(ArgAction::Set)
         }
+        Syntax::LetterValues(letter, name) => arg
+            .short(letter)
+            .value_name(name)
+            .action(ArgAction::Append),
         Syntax::Needed(letter, name) => arg
             .short(letter)
             .value_name(name)

@@ -12,10 +12,10 @@ use Rattle.krl_entries.specs.Reasons.{bits_in, every_reason, has_reason, name_as
 use Rattle.krl_entries.specs.declared.reasons.Reason.{Reason}
 use Rattle.krl_entries.specs.declared.reasons.Reasons.{Reasons}
 use Rattle.krl_entries.proofs.ReasonBits.{next_bit}
-use Rattle.text_index.specs.Explaining.{Explains, explaining}
+use Rattle.text_index.specs.Explaining.{Explained, explained_by, explained_of, explaining, unnamed_by}
 use Rattle.text_index.specs.Found.{FindsAll, FindsAsked, FindsSome, finds_reason, lacks_reason}
 use Rattle.text_index.specs.Indexing.{Indexes, line_of}
-use Rattle.text_index.specs.NamingLines.{NamingLine}
+use Rattle.text_index.specs.NamingLines.{Line, NamingLine}
 use Rattle.text_index.specs.declared.explaining.Explanation.{Explanation}
 use Rattle.text_index.specs.declared.indexing.TextIndex.{TextIndex}
 use Rattle.text_index.specs.declared.name_index.NameIndex.{NameIndex}
@@ -29,14 +29,17 @@ use Rattle.text_index.proofs.ReasonNames.{finds_is, unnamed_is}
 pub explained : (index : TextIndex) (asked : Subject) (reasons : Reasons) (explanation : Explanation) (found : List ℕ)
     → FindsAll index.names asked reasons explanation.unnamed [] found → IsStrictlySortedBy nat_cmp found
     → explanation.lines.items ≡ filter_map (slice_get index.lines.items) found
-    → (lines : List NamingLine) → Indexes index lines → Explains lines asked reasons explanation
-explained index asked reasons explanation found finds sorted are lines is = record {
-  lines_are =
-      ap (map line_of) are
-      ∙ lines_chosen asked reasons index.lines.items is.said found is.one_each sorted (λ i. finds.at_each i ∙ finds_is index lines is asked reasons i)
-      ∙ ap (λ (all : List NamingLine). map (λ (line : NamingLine). line.line) (explaining all asked reasons)) (sym is.lines_are);
-  unnamed_is = unnamed_is index lines asked reasons explanation.unnamed is finds.bits_are;
-}
+    → (lines : List NamingLine) → Indexes index lines → explained_of explanation ≡ explained_by lines asked reasons
+explained index asked reasons explanation found finds sorted are lines is =
+    let chosen : map line_of explanation.lines.items ≡ map (λ (line : NamingLine). line.line) (explaining lines asked reasons) =
+    ap (map line_of) are
+    ∙ lines_chosen asked reasons index.lines.items is.said found is.one_each sorted (λ i. finds.at_each i ∙ finds_is index lines is asked reasons i)
+    ∙ ap (λ (all : List NamingLine). map (λ (line : NamingLine). line.line) (explaining all asked reasons)) (sym is.lines_are) in
+    let unnamed : explanation.unnamed ≡ unnamed_by lines asked reasons = unnamed_is index lines asked reasons explanation.unnamed is finds.bits_are in
+    ap (λ (some : List Line). explained_with some explanation.unnamed) chosen ∙ ap (explained_with (map (λ (line : NamingLine). line.line) (explaining lines asked reasons))) unnamed
+  where
+    explained_with : List Line → Reasons → Explained
+    explained_with lines unnamed = record { lines = lines; unnamed = unnamed }
 
 -- ---- a number that is inserted
 

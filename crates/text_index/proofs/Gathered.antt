@@ -1,7 +1,8 @@
 -- The numbers at one key, and at all keys of a serial number.
 use Rattle.std.proofs.Common.{◌≡◌, ◌<◌, ◌≤◌, ◌⊎◌, ℕ, ◌-◌, ◌/◌, List, [], ◌∷◌, ◌++◌, length, drop, map, flat_map, Option, refl, sym, ap, ◌∙◌, append_assoc, append-nil}
 use Rattle.std.proofs.lemmas.List.{drop_all}
-use Rattle.std.specs.BTreeMap.{get_by}
+use Rattle.std.specs.BTreeMap.{is_at}
+use Rattle.std.specs.Map.{lookup}
 use Rattle.std.specs.Cmp.Lexicographic.{slice_cmp}
 use Rattle.std.specs.Global.{Vec}
 use Rattle.std.specs.Int.{to_be_bytes, w64}
@@ -16,7 +17,7 @@ use Rattle.text_index.proofs.CommonFronts.{last_front, more_fronts}
 -- ---- what is under a key
 
 abbrev at_key : NameIndex → List ℕ → Option (Vec Posting)
-at_key index key = get_by (λ k. slice_cmp nat_cmp key k.items) index.places
+at_key index key = lookup (is_at (λ k. slice_cmp nat_cmp key k.items)) index.entries
 
 pub those_at_key : (index : NameIndex) (key : List ℕ) (name : Name) (there : Option (Vec Posting)) → at_key index key ≡ there
     → numbers_at index key name ≡ numbers_among (all_of there) key name
@@ -52,12 +53,12 @@ last_taken index name bits front lines last =
 
 -- ---- no lines
 
-none_among : (index : NameIndex) → index.places.entries ≡ [] → (name : Name) (keys : List (List ℕ)) → flat_map (λ key. numbers_at index key name) keys ≡ []
+none_among : (index : NameIndex) → index.entries ≡ [] → (name : Name) (keys : List (List ℕ)) → flat_map (λ key. numbers_at index key name) keys ≡ []
 unfolding numbers_at postings_at
 none_among index none name [] = refl
 none_among index none name (key ∷ keys) =
     rw none (none_among index none name keys)
 
-pub no_numbers : (index : NameIndex) → index.places.entries ≡ [] → (name : Name) → numbers index name ≡ []
+pub no_numbers : (index : NameIndex) → index.entries ≡ [] → (name : Name) → numbers index name ≡ []
 unfolding numbers
 no_numbers index none name = none_among index none name (keys_of name)

@@ -116,26 +116,26 @@ put_after key other posting w before at_key same is = by (bytes_eq key other) re
     by false fails = refl
 
 -- A posting is put behind others.
-pub puts_set : (key : List ℕ) (posting : Posting) (old new : NameIndex) (v w : Vec Posting) → lookup (test key) old.places.entries ≡ Some v
-    → new.places.entries ≡ set_value (test key) old.places.entries w → w.items ≡ v.items ++ posting ∷ [] → Puts key posting old new
+pub puts_set : (key : List ℕ) (posting : Posting) (old new : NameIndex) (v w : Vec Posting) → lookup (test key) old.entries ≡ Some v
+    → new.entries ≡ set_value (test key) old.entries w → w.items ≡ v.items ++ posting ∷ [] → Puts key posting old new
 unfolding postings_at
 puts_set key posting old new v w found set is = record {
   at_each = λ other.
-      ap all_of (ap (lookup (test other)) set ∙ found_set key other v w old.places.entries found)
-      ∙ put_after key other posting w (lookup (test other) old.places.entries) (Some v)
-      (λ same. ap (λ (bytes : List ℕ). lookup (test bytes) old.places.entries) (sym same) ∙ found) is;
+      ap all_of (ap (lookup (test other)) set ∙ found_set key other v w old.entries found)
+      ∙ put_after key other posting w (lookup (test other) old.entries) (Some v)
+      (λ same. ap (λ (bytes : List ℕ). lookup (test bytes) old.entries) (sym same) ∙ found) is;
 }
 
 -- A posting is the first one under its key.
 pub puts_inserted : (key : Vec ℕ) (bytes : List ℕ) (posting : Posting) (old new : NameIndex) (w : Vec Posting) → key.items ≡ bytes
-    → lookup (test bytes) old.places.entries ≡ None → new.places.entries ≡ insert_entry by_bytes old.places.entries key w → w.items ≡ posting ∷ []
+    → lookup (test bytes) old.entries ≡ None → new.entries ≡ insert_entry by_bytes old.entries key w → w.items ≡ posting ∷ []
     → Puts bytes posting old new
 unfolding postings_at
 puts_inserted key bytes posting old new w same none inserted is = record {
   at_each = λ other.
-      let here : lookup (test key.items) old.places.entries ≡ None = ap (λ (b : List ℕ). lookup (test b) old.places.entries) same ∙ none in
-      ap all_of (ap (lookup (test other)) inserted ∙ found_inserted key other w old.places.entries here)
-      ∙ ap (λ (b : List ℕ). all_of (cond (bytes_eq b other) (Some w) (lookup (test other) old.places.entries))) same
-      ∙ put_after bytes other posting w (lookup (test other) old.places.entries) None
-      (λ is. ap (λ (b : List ℕ). lookup (test b) old.places.entries) (sym is) ∙ none) is;
+      let here : lookup (test key.items) old.entries ≡ None = ap (λ (b : List ℕ). lookup (test b) old.entries) same ∙ none in
+      ap all_of (ap (lookup (test other)) inserted ∙ found_inserted key other w old.entries here)
+      ∙ ap (λ (b : List ℕ). all_of (cond (bytes_eq b other) (Some w) (lookup (test other) old.entries))) same
+      ∙ put_after bytes other posting w (lookup (test other) old.entries) None
+      (λ is. ap (λ (b : List ℕ). lookup (test b) old.entries) (sym is) ∙ none) is;
 }

@@ -6,7 +6,7 @@ use Rattle.krl_entries.specs.Reasons.{bits_in, every_reason, has_reason, reasons
 use Rattle.krl_entries.specs.declared.reasons.Reason.{Reason}
 use Rattle.krl_entries.specs.declared.reasons.Reasons.{Reasons}
 use Rattle.text_index.specs.Indexing.{line_of}
-use Rattle.text_index.specs.NamingLines.{NamingLine}
+use Rattle.text_index.specs.NamingLines.{Line, NamingLine}
 use Rattle.text_index.specs.declared.explaining.Explanation.{Explanation}
 
 -- The entry of the line gives this reason.
@@ -29,10 +29,18 @@ unnamed_by lines asked reasons =
     λ reason. has_reason reasons reason && not (list_any (gives asked reason) lines) in
     record { bits = bits_in (map is_unnamed every_reason) }
 
--- The lines are exactly those that give one of the reasons, and each reason that none gives is
--- unnamed.
-pub record Explains (lines : List NamingLine) (asked : Subject) (reasons : Reasons)
-    (explanation : Explanation) : Type 0 where
-  pub lines_are : map line_of explanation.lines.items
-      ≡ map (λ line. line.line) (explaining lines asked reasons)
-  pub unnamed_is : explanation.unnamed ≡ unnamed_by lines asked reasons
+-- lines that give reasons, and the reasons that no line gives
+pub record Explained : Type 0 where
+  pub lines : List Line
+  pub unnamed : Reasons
+
+-- exactly those of the lines that give one of these reasons, and the reasons that none gives
+abbrev pub explained_by : List NamingLine → Subject → Reasons → Explained
+explained_by lines asked reasons = record {
+  lines = map (λ line. line.line) (explaining lines asked reasons);
+  unnamed = unnamed_by lines asked reasons;
+}
+
+abbrev pub explained_of : Explanation → Explained
+explained_of explanation =
+    record { lines = map line_of explanation.lines.items; unnamed = explanation.unnamed }

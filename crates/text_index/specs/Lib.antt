@@ -1,5 +1,6 @@
 pub mod Fronts
 pub mod Postings
+pub mod Places
 pub mod NameIndex
 pub mod NamingLines
 pub mod Indexing

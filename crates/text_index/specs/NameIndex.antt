@@ -1,7 +1,8 @@
 -- Which lines have a name.
 use Rattle.std.specs.Prelude.{◌≡◌, ℕ, Bool, ◌&&◌, ◌||◌, nat_eq, List, [], ◌∷◌, ◌++◌, map, Option}
 use Rattle.std.specs.Prelude.{Some, None, if◌then◌else◌}
-use Rattle.std.specs.BTreeMap.{get_by}
+use Rattle.std.specs.BTreeMap.{is_at}
+use Rattle.std.specs.Map.{lookup}
 use Rattle.std.specs.Cmp.Lexicographic.{slice_cmp}
 use Rattle.std.specs.Global.{Vec}
 use Rattle.std.specs.Int.{to_be_bytes, w64}
@@ -24,7 +25,8 @@ all_of (Some postings) = postings.items
 
 -- the postings under a key
 unfoldable pub postings_at : NameIndex → (key : List ℕ) → List Posting
-postings_at index key = all_of (get_by (λ k. slice_cmp nat_cmp key k.items) index.places)
+postings_at index key =
+    all_of (lookup (is_at (λ k. slice_cmp nat_cmp key k.items)) index.entries)
 
 -- the keys under which lines with this name are kept
 abbrev pub keys_of : Name → List (List ℕ)

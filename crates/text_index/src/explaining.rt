@@ -6,7 +6,7 @@ ghost use Rattle.std.specs.List.Sorted.{IsStrictlySortedBy};
 ghost use Rattle.std.specs.Option.{option_map};
 ghost use Rattle.std.specs.Ordering.{nat_cmp};
 ghost use Rattle.krl_entries.specs.Named.{named};
-ghost use Rattle.text_index.specs.Explaining.{Explains};
+ghost use Rattle.text_index.specs.Explaining.{explained_by, explained_of};
 ghost use Rattle.text_index.specs.Found.{FindsAll, FindsAsked, HasMore};
 ghost use Rattle.text_index.specs.Indexing.{Indexes};
 ghost use Rattle.text_index.specs.NamingLines.{NamingLine};
@@ -39,7 +39,7 @@ impl<'t> TextIndex<'t> {
         reasons: Reasons,
     ) -> Result<Explanation<'t>, AllocError>
         ensures { IfOk result (λ explanation. (lines : List NamingLine) → Indexes self.now lines
-            → Explains lines subject.now reasons explanation) }
+            → explained_of explanation ≡ explained_by lines subject.now reasons) }
     {
         let mut found = BTreeSet::new(alloc);
         let unnamed = look_up(alloc, &self.names, subject, reasons, &mut found)?;

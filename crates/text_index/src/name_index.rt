@@ -18,12 +18,21 @@ use sha2::{Digest, Sha256};
 use span_sets::Held;
 use std::alloc::{AllocError, Global};
 use std::collections::BTreeMap;
+use std::marker::Model;
 
 /// A map to lines from what they name. An item is under its bytes, and serial numbers are under the
 /// front that they have in common.
 #[derive(Drop)]
 pub struct NameIndex {
-    pub places: BTreeMap<Vec<u8>, Vec<Posting>>,
+    pub(crate) places: BTreeMap<Vec<u8>, Vec<Posting>>,
+}
+
+impl Model for NameIndex {
+    ghost use Rattle.text_index.specs.Places.{Places};
+
+    ghost Value = { Places };
+
+    ghost view = { λ index. record { entries = index.places.entries } };
 }
 
 impl NameIndex {

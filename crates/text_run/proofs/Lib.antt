@@ -1,4 +1,5 @@
 pub mod TextsAdded
+pub mod TextsIndexed
 pub mod MadeLists
 pub mod Contents
 pub mod Updated

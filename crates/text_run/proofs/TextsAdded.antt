@@ -76,24 +76,28 @@ entries_joined standing (text ∷ front) back =
     ∙ then_both (text_from standing text) (λ after. texts_from after front) (λ later. texts_from later back)
 
 -- Texts were read, and others are left.
-pub record IsAt (today : ℕ) (texts left : List Text) (standing : Standing) (old now : Revocations) : Type 0 where
+pub record AreRead (today : ℕ) (texts left : List Text) (standing : Standing) : Type 0 where
   pub before : List Text
   pub parts : texts ≡ before ++ left
   pub entries : List Entry
   pub read : texts_from (first_standing today) before ≡ Ok (record { entries = entries; standing = standing })
-  pub held_are : HoldsMore old now entries
+
+abbrev pub none_read : (today : ℕ) (texts : List Text) → AreRead today texts texts (first_standing today)
+none_read today texts = record { before = []; parts = refl; entries = []; read = refl }
+
+-- The same, and their entries are held.
+pub record IsAt (today : ℕ) (texts left : List Text) (standing : Standing) (old now : Revocations) : Type 0 where
+  pub are : AreRead today texts left standing
+  pub held_are : HoldsMore old now are.entries
 
 pub none_added : (today : ℕ) (texts : List Text) (r : Revocations) → IsAt today texts texts (first_standing today) r r
 none_added today texts r = record {
-  before = [];
-  parts = refl;
-  entries = [];
-  read = refl;
+  are = none_read today texts;
   held_are = record { means = λ entries means. rw (append-nil entries) means; held_is = omega arith };
 }
 
 -- what the texts before give, and one more
-one_more : (today : ℕ) (before : List Text) (text : Text) (entries : List Entry) (standing : Standing) (more : TextEntries)
+pub one_more : (today : ℕ) (before : List Text) (text : Text) (entries : List Entry) (standing : Standing) (more : TextEntries)
     → texts_from (first_standing today) before ≡ Ok (record { entries = entries; standing = standing }) → text_from standing text ≡ Ok more
     → texts_from (first_standing today) (before ++ text ∷ []) ≡ Ok (record more { entries = entries ++ more.entries })
 one_more today before text entries standing more front back =
@@ -102,34 +106,42 @@ one_more today before text entries standing more front back =
     ∙ ap (λ (r : Read). then_from (Ok (record { entries = entries; standing = standing })) (λ after. then_from r (λ later. texts_from later []))) back
     ∙ ap (λ (es : List Entry). Ok (record more { entries = entries ++ es })) (append-nil more.entries)
 
+abbrev pub text_read : (today : ℕ) (texts : List Text) (text : Text) (left : List Text) (standing : Standing) (more : TextEntries)
+    → AreRead today texts (text ∷ left) standing → text_from standing text ≡ Ok more → AreRead today texts left more.standing
+text_read today texts text left standing more are read = record {
+  before = are.before ++ text ∷ [];
+  parts = are.parts ∙ sym (append_assoc are.before (text ∷ []) left);
+  entries = are.entries ++ more.entries;
+  read = one_more today are.before text are.entries standing more are.read read;
+}
+
 pub text_added : (today : ℕ) (texts : List Text) (text : Text) (left : List Text) (standing after : Standing) (old mid new : Revocations)
     → IsAt today texts (text ∷ left) standing old mid
     → AddsText {A = Unit {0}} text.name (text_from standing text) (Ok tt) after mid new → IsAt today texts left after old new
-text_added today texts text left standing after old mid new at (more, read, same, holds) = record {
-  before = at.before ++ text ∷ [];
-  parts = at.parts ∙ sym (append_assoc at.before (text ∷ []) left);
-  entries = at.entries ++ more.entries;
-  read = rw same (one_more today at.before text at.entries standing more at.read read);
-  held_are = record {
-    means = λ entries means. rw (← append_assoc entries at.entries more.entries) (holds.means (entries ++ at.entries) (at.held_are.means entries means));
-    held_is = omega (arith, at.held_are.held_is, holds.held_is, length-append at.entries more.entries);
-  };
-}
+text_added today texts text left standing after old mid new at (more, read, same, holds) =
+    let entries : List Entry = at.are.entries in
+    rw same (record {
+      are = text_read today texts text left standing more at.are read;
+      held_are = record {
+        means = λ others means. rw (← append_assoc others entries more.entries) (holds.means (others ++ entries) (at.held_are.means others means));
+        held_is = omega (arith, at.held_are.held_is, holds.held_is, length-append entries more.entries);
+      };
+    })
 
 -- the first fault of all texts is that of the first text that is left
-fault_after : (today : ℕ) (texts : List Text) (text : Text) (left : List Text) (standing : Standing) (fault : MakeFault) (old mid : Revocations)
-    → IsAt today texts (text ∷ left) standing old mid → text_from standing text ≡ Err fault → texts_entries today texts ≡ Err fault
-fault_after today texts text left standing fault old mid at is =
+fault_after : (today : ℕ) (texts : List Text) (text : Text) (left : List Text) (standing : Standing) (fault : MakeFault)
+    → AreRead today texts (text ∷ left) standing → text_from standing text ≡ Err fault → texts_entries today texts ≡ Err fault
+fault_after today texts text left standing fault at is =
     ap (λ (ts : List Text). texts_entries today ts) at.parts
     ∙ ap only_entries (entries_joined (first_standing today) at.before (text ∷ left))
     ∙ ap (λ (r : Read). only_entries (then_from r (λ after. texts_from after (text ∷ left)))) at.read
     ∙ ap (λ (r : Read). only_entries (then_from (Ok (record { entries = at.entries; standing = standing })) (λ after. then_from r (λ later. texts_from later left)))) is
 
-stops_for : (today : ℕ) (texts : List Text) (text : Text) (left : List Text) (standing : Standing) (fault : MakeFault) (old mid : Revocations)
-    → IsAt today texts (text ∷ left) standing old mid
+stops_for : (today : ℕ) (texts : List Text) (text : Text) (left : List Text) (standing : Standing) (fault : MakeFault)
+    → AreRead today texts (text ∷ left) standing
     → (cause : MakeCause) → IsMakeFault (λ other. other ≡ text.name) cause (text_from standing text) fault
     → IsMakeFault (LacksMemoryAt today texts) cause (texts_entries today texts) fault
-stops_for today texts text left standing fault old mid at (Run causes.NoMemory) (whole, named) = (
+stops_for today texts text left standing fault at (Run causes.NoMemory) (whole, named) = (
   whole,
   record {
     before = at.before;
@@ -141,20 +153,21 @@ stops_for today texts text left standing fault old mid at (Run causes.NoMemory) 
     faultless = ap only_entries at.read;
   },
 )
-stops_for today texts text left standing fault old mid at cause is = fault_after today texts text left standing fault old mid at is
+stops_for today texts text left standing fault at cause is = fault_after today texts text left standing fault at is
 
-pub text_stops : (today : ℕ) (texts : List Text) (text : Text) (left : List Text) (standing : Standing) (fault : MakeFault) (old mid : Revocations)
-    → IsAt today texts (text ∷ left) standing old mid
+pub text_stops : (today : ℕ) (texts : List Text) (text : Text) (left : List Text) (standing : Standing) (fault : MakeFault)
+    → AreRead today texts (text ∷ left) standing
     → IsMakeFault (λ other. other ≡ text.name) fault.cause (text_from standing text) fault
     → IsMakeFault (LacksMemoryAt today texts) fault.cause (texts_entries today texts) fault
-text_stops today texts text left standing fault old mid at is = stops_for today texts text left standing fault old mid at fault.cause is
+text_stops today texts text left standing fault at is = stops_for today texts text left standing fault at fault.cause is
+
+pub all_read : (today : ℕ) (texts : List Text) (standing : Standing) (are : AreRead today texts [] standing)
+    → texts_on today texts ≡ Ok (record { entries = are.entries; standing = standing })
+all_read today texts standing are = ap (λ (ts : List Text). texts_on today ts) (are.parts ∙ append-nil are.before) ∙ are.read
 
 pub all_added : (today : ℕ) (texts : List Text) (standing : Standing) (old new : Revocations) → IsAt today texts [] standing old new
     → AddsTexts today texts (Ok standing) old new
-all_added today texts standing old new at =
-    let whole : texts_on today texts ≡ Ok (record { entries = at.entries; standing = standing }) =
-    ap (λ (ts : List Text). texts_on today ts) (at.parts ∙ append-nil at.before) ∙ at.read in
-    (at.entries, whole, at.held_are)
+all_added today texts standing old new at = (at.are.entries, all_read today texts standing at.are, at.held_are)
 
 -- the texts from a place on are the one there and the others
 pub texts_next : (texts : List Text) (i : ℕ) (text : Text) → text ≡ get_or texts i text → i < length texts → drop i texts ≡ text ∷ drop (i + 1) texts

@@ -1,5 +1,6 @@
 pub mod Fault
 pub mod Making
+pub mod Indexed
 pub mod Naming
 pub mod Over
 pub mod Said

@@ -149,11 +149,15 @@ GivesNames today texts names =
     (given : TextEntries) × (texts_on today texts ≡ Ok given)
     × ((key : List ℕ) → key_named names key ≡ name_of given.standing.names key)
 
--- The texts have this fault first, or an allocation failed.
+-- The texts have this fault first, or an allocation failed at one of them.
+abbrev pub IsUnread : (today : ℕ) → List Text → MakeFault → Type 0
+IsUnread today texts fault =
+    IsMakeFault (LacksMemoryAt today texts) fault.cause (texts_entries today texts) fault
+
+-- The same, or there was no memory for the names.
 abbrev pub IsUnnamed : (today : ℕ) → List Text → MakeFault → Type 0
 IsUnnamed today texts fault =
-    (fault ≡ whole_fault (codes "memory") (Run causes.NoMemory))
-    ⊎ IsMakeFault (LacksMemoryAt today texts) fault.cause (texts_entries today texts) fault
+    (fault ≡ whole_fault (codes "memory") (Run causes.NoMemory)) ⊎ IsUnread today texts fault
 
 -- ---- the list
 

@@ -6,6 +6,7 @@ mod ahead;
 mod base;
 mod content;
 mod counting;
+mod indexed;
 mod inputs;
 pub mod laws;
 mod listed;
@@ -17,6 +18,7 @@ mod run;
 mod saying;
 mod text;
 
+pub use indexed::index_in;
 pub use inputs::{Inputs, Over};
 pub use listed::{Facts, Listed, Merged, read_texts};
 pub use make_fault::{MakeCause, MakeFault};

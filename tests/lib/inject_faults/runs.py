@@ -79,4 +79,22 @@ KRL_RUNS = [
         is_patient=False,
     ),
     Run("an audit by a list that is cut", "audit -f cut.krl g.pub", is_patient=False),
+    Run(
+        "an audit by the list of a text",
+        "audit -a -t whole.txt " + KEYS,
+        is_patient=False,
+        environment=EPOCH,
+    ),
+    Run(
+        "an audit that texts explain, as objects",
+        "audit --json -f whole.krl -t whole.txt -t more.txt certs.pub keys.pub",
+        is_patient=False,
+        environment=EPOCH,
+    ),
+    Run(
+        "an audit by a text that is wrong",
+        "audit -t whole.txt -t wrong.txt g.pub",
+        is_patient=False,
+        environment=EPOCH,
+    ),
 ]

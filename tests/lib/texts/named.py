@@ -313,13 +313,14 @@ def lost(name, named, other_name, other):
 # ---- the line about a list
 
 
-def visible(content):
-    """A text with control characters by their numbers."""
+def visible(content, escaped=""):
+    """A text with control characters by their numbers, and some others behind a backslash."""
     try:
         text, numbered = content.decode(), lambda it: unicodedata.category(it) == "Cc"
     except UnicodeDecodeError:
         text, numbered = content.decode("latin-1"), lambda it: not " " <= it <= "~"
-    return "".join("\\x%02x" % ord(it) if numbered(it) else it for it in text)
+    shown = lambda it: "\\x%02x" % ord(it) if numbered(it) else "\\" * (it in escaped) + it
+    return "".join(map(shown, text))
 
 
 def date(seconds):

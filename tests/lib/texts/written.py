@@ -24,21 +24,26 @@ FRONTS = ["", "", " ", "\t\r "]
 
 
 class Reading:
-    """What the texts of a command name on a day, and how many of their lines are over, up to the
-    first line that is refused: the index of its text, its number and the words about it. A text is
-    the name of its file and its lines."""
+    """What the texts of a command name on a day, all together and in each line that has an entry,
+    and how many of their lines are over, up to the first line that is refused: the index of its
+    text, its number and the words about it. A text is the name of its file and its lines."""
 
     def __init__(self, *texts, today=days.TODAY):
         self.texts, self.today = texts, today
         self.named, self.names, self.over, self.refused = Named(), {}, 0, None
+        self.entries = []
         for at, (file, lines) in enumerate(texts):
             self.current = None
             for number, line in enumerate(lines, 1):
                 self.place = place(file, number)
+                self.own = Named()
                 fault = line.say(self)
                 if fault is not None:
                     self.refused = at, number, self.words(line, fault)
                     return
+                self.named.add(self.own)
+                if list(self.own.facts()):
+                    self.entries.append(Entry(file, number, line.written, self.own))
 
     def named_by_key(self):
         """The name of each authority that has one: of several the first one by its bytes."""
@@ -66,6 +71,13 @@ class Reading:
         ]
         near = [it for it in given if faults.is_near(name, it[0])]
         return next((it for it in near if it[0] == name), near[0] if near else None)
+
+
+class Entry:
+    """A line that has an entry, and what it names by itself."""
+
+    def __init__(self, file, number, written, named):
+        self.file, self.number, self.written, self.named = file, number, written, named
 
 
 def place(file, number):
@@ -115,7 +127,7 @@ class Under(Line):
     def say(self, reading):
         if reading.current is None:
             return faults.NO_AUTHORITY
-        self.add(reading.named, reading.current)
+        self.add(reading.own, reading.current)
         return None
 
 
@@ -147,7 +159,7 @@ class Alone(Line):
         self.add, self.is_certificate = add, is_certificate
 
     def say(self, reading):
-        self.add(reading.named)
+        self.add(reading.own)
         reading.current = None
 
 
@@ -161,9 +173,8 @@ class Dated(Line):
     def say(self, reading):
         if self.day >= reading.today:
             return self.line.say(reading)
-        named, reading.named = reading.named, Named()
         fault = self.line.say(reading)
-        reading.named = named
+        reading.own = Named()
         reading.over += fault is None
         return fault
 
@@ -421,13 +432,13 @@ def any_text(pool):
     return [maybe_dated(pool, it) for it in lines]
 
 
-def days_text(pool, today):
+def days_text(pool, today, most=20):
     """Lines with last days, mostly near the given one. In each third text some may be damaged."""
     begin(pool)
     source, pool.today = pool.source, today
     lines = [naming(pool, *it) for it in pool.names.items()] + [an_authority(pool)]
     odds = 0.15 if source.random() < 0.3 else 0
-    for _ in range(source.randrange(1, 20)):
+    for _ in range(source.randrange(1, most)):
         line = source.choice([*ENTRIES, any_marked, any_marked, a_certificate, *BESIDE])(pool)
         sort = source.random()
         if sort < odds:

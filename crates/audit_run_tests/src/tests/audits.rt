@@ -60,6 +60,7 @@ pub fn check(
     let order = Order {
         list: "revoked.krl",
         canaries: None,
+        texts: None,
         shown: asked.options.shown(),
         every_file: asked.every,
         names_from: "names",

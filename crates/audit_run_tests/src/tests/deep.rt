@@ -113,6 +113,7 @@ fn audited_in(alloc: Global, depth: usize) -> (u8, u64) {
     let order = Order {
         list: "none",
         canaries: None,
+        texts: None,
         shown: LOUD.shown(),
         every_file: false,
         names_from: "",

@@ -36,6 +36,7 @@ fn end_of(rt: &impl Abort, alloc: Global, list: Vec<u8>) -> End {
     let order = Order {
         list: "revoked.krl",
         canaries: None,
+        texts: None,
         shown: LOUD.shown(),
         every_file: false,
         names_from: "",

@@ -105,6 +105,7 @@ fn names_that_cannot_be_read_to_their_end(rt: HostRuntime) -> Result<(), Fail> {
     let order = Order {
         list: "revoked.krl",
         canaries: None,
+        texts: None,
         shown: LOUD.shown(),
         every_file: false,
         names_from: "names",

@@ -32,6 +32,7 @@ fn is_clean<T: Tree, W: Screen>(
     let order = Order {
         list: "revoked.krl",
         canaries: None,
+        texts: None,
         shown: NOTHING,
         every_file: false,
         names_from: "",

@@ -45,6 +45,7 @@ fn a_canary_is_no_finding_and_a_certificate_by_it_is_one(rt: HostRuntime) {
     let judge = Judge {
         list: &list,
         canaries: Some(&list),
+        texts: None,
         shown: FINDINGS,
     };
     let text = format!(in rt.alloc(); "{ALICE}\n{AUTHORITY}\n{BOB}\n");

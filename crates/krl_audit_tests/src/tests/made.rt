@@ -110,6 +110,7 @@ pub fn said_of(
     let judge = Judge {
         list,
         canaries: None,
+        texts: None,
         shown,
     };
     said_by(rt, alloc, judge, files)

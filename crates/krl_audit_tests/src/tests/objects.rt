@@ -302,6 +302,7 @@ fn say_last<W: Sink>(
     let judge = Judge {
         list,
         canaries: None,
+        texts: None,
         shown: OBJECTS,
     };
     let counts = Counts {

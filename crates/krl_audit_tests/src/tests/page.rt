@@ -32,6 +32,7 @@ fn audit_one<W: Sink>(
     let judge = Judge {
         list,
         canaries: None,
+        texts: None,
         shown,
     };
     let mut auditor = Auditor {

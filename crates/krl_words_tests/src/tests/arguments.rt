@@ -60,13 +60,13 @@ fn status_by(alloc: Global, words: &[&str]) -> Result<u8, &'static str> {
 fn audits(rt: HostRuntime) -> Result<(), Fail> {
     let words = ["krl", "audit", "a", "-aqfk", "--json", "b", "--", "-a"];
     let audit = audit_by(rt.alloc(), &words)?;
-    assert_eq!(rt; audit.list, "k");
+    assert!(rt; audit.list == Some("k") && audit.list_name() == "k" && audit.texts.is_empty());
     assert!(rt; audit.all && audit.quiet && audit.json && audit.names_from.is_none());
     assert!(rt; audit.files.as_slice() == ["a", "b", "-a"].as_slice());
     assert!(rt; !audit.every_file);
     let words = ["krl", "audit", "--files0-from=-", "--all", "-f", "k"];
     let audit = audit_by(rt.alloc(), &words)?;
-    assert_eq!(rt; audit.list, "k");
+    assert!(rt; audit.list == Some("k"));
     assert!(rt; audit.every_file);
     assert!(rt; audit.names_from == Some("-") && audit.files.is_empty());
     assert!(rt; !audit.all && !audit.quiet && !audit.json && !audit.one_file_system);
@@ -85,12 +85,20 @@ fn audits(rt: HostRuntime) -> Result<(), Fail> {
         "a",
     ];
     let audit = audit_by(rt.alloc(), &words)?;
-    assert!(rt; audit.list == "-" && audit.one_file_system && !audit.quiet);
+    assert!(rt; audit.list == Some("-") && audit.one_file_system && !audit.quiet);
     assert!(rt; audit.canary.as_slice() == ["c", "d"].as_slice());
     assert!(rt; audit.exclude.as_slice() == [".cache", "sys"].as_slice());
     let words = ["krl", "audit", "-f", "k", "-", "-"];
     let audit = audit_by(rt.alloc(), &words)?;
     assert!(rt; audit.files.as_slice() == ["-", "-"].as_slice());
+    let words = ["krl", "audit", "-t", "a.txt", "x", "-tb.txt"];
+    let audit = audit_by(rt.alloc(), &words)?;
+    assert!(rt; audit.list.is_none() && audit.list_name() == "a.txt");
+    assert!(rt; audit.texts.as_slice() == ["a.txt", "b.txt"].as_slice());
+    let words = ["krl", "audit", "-t", "-", "-f", "k", "x"];
+    let audit = audit_by(rt.alloc(), &words)?;
+    assert!(rt; audit.list == Some("k") && audit.list_name() == "k");
+    assert!(rt; audit.texts.as_slice() == ["-"].as_slice());
     Ok(())
 }
 
@@ -264,7 +272,7 @@ fn comparisons(rt: HostRuntime) -> Result<(), Fail> {
 }
 
 // Words that are refused.
-const REFUSED: [&[&str]; 63] = [
+static REFUSED: [&[&str]; 66] = [
     &["krl", "audit", "-f-", "-"],
     &["krl", "audit", "-f-", "a", "-", "-"],
     &["krl", "audit", "-f-", "--files0-from", "-"],
@@ -272,6 +280,9 @@ const REFUSED: [&[&str]; 63] = [
     &["krl", "audit", "-fk", "--files0-from=-", "-"],
     &["krl", "audit", "-fk", "--canary=-", "-"],
     &["krl", "audit", "-fk", "--canary=-", "--canary=-", "a"],
+    &["krl", "audit", "-f-", "-t-", "a"],
+    &["krl", "audit", "-t-", "-t-", "a"],
+    &["krl", "audit", "-t-", "-"],
     &["krl", "audit", "-fk", "-xx", "a"],
     &["krl", "check", "-", "--newer-than", "-"],
     &["krl", "check", "-", "--superset-of", "-"],
@@ -389,7 +400,8 @@ fn versions(rt: HostRuntime) -> Result<(), Fail> {
 }
 
 // Words that are refused, and the beginning of what is said.
-const SAID: [(&[&str], &str); 11] = [
+const SAID: [(&[&str], &str); 12] = [
+    (&["krl", "audit", "a"], "error: -f or -t is needed\n"),
     (
         &["krl", "show", "-", "-"],
         "error: standard input (-) can be read for one file only\n",

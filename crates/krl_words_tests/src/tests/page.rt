@@ -112,7 +112,7 @@ fn list_of<'a>(
     words: &'a [&'a str],
 ) -> Result<Option<&'a str>, CommandFault> {
     match task_of(alloc, version, words)? {
-        Task::Audit(audit) => Ok(Some(audit.list)),
+        Task::Audit(audit) => Ok(audit.list),
         Task::Check(check) => Ok(Some(check.list)),
         Task::Show(_) => Ok(None),
         Task::Make(make) => Ok(Some(make.list)),

@@ -79,6 +79,7 @@ fn said_as_objects<W: Sink>(
         judge: Judge {
             list,
             canaries: None,
+            texts: None,
             shown,
         },
         run,
@@ -147,6 +148,7 @@ fn audited<W: Sink>(
         judge: Judge {
             list,
             canaries: None,
+            texts: None,
             shown,
         },
         run,

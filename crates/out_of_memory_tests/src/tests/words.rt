@@ -55,19 +55,20 @@ fn words_that_are_refused(rt: HostRuntime) {
 
 #[test]
 fn a_task(rt: HostRuntime) {
-    let words = ["krl", "audit", "-f", "r.krl", "-a", "--json", "x", "y"];
+    let words = ["krl", "audit", "-t", "r.txt", "-a", "--json", "x", "y"];
     match task_of(rt.alloc(), VERSION, &words) {
         Ok(
             Task::Audit(
                 Audit {
-                    list,
+                    list: None,
+                    texts,
                     all,
                     json,
                     files,
                     ..
                 },
             ),
-        ) => assert!(rt; list == "r.krl" && all && json && files.len() == 2),
+        ) => assert!(rt; texts.len() == 1 && all && json && files.len() == 2),
         Err(CommandFault::NoMemory) => ran_out(&rt),
         _ => assert!(rt; false, "the words ask for an audit"),
     }

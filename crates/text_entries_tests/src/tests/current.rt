@@ -14,7 +14,7 @@ use text_entries::{Standing, TextCause, TextFault, read_text};
 const NO_AUTHORITY: &str = "text 1 Spec, spec 4 NoAuthority";
 
 // The parts of lines after which no authority is current.
-const ENDS: [&[&[u8]]; 11] = [
+static ENDS: [&[&[u8]]; 11] = [
     &[b"key: ", GITHUB_LINE],
     &[b"\tKEY:", GITHUB_LINE, b" c # d\r"],
     &[b"key: ", CERT_LINE],
@@ -29,7 +29,7 @@ const ENDS: [&[&[u8]]; 11] = [
 ];
 
 // Lines that need an authority. The last one has another fault too, which counts less.
-const UNDER: [&[u8]; 4] = [b"serial: 5", b"id: a", b"id-hex: 61", b"id-hex: xx"];
+static UNDER: [&[u8]; 4] = [b"serial: 5", b"id: a", b"id-hex: 61", b"id-hex: xx"];
 
 // Each line that needs an authority lacks one after these parts, in the line of this number.
 fn all_lack(rt: &impl Abort, alloc: Global, before: [&[u8]; 3], number: u64, row: usize) {
@@ -88,7 +88,7 @@ fn the_next_one_after_a_key(rt: HostRuntime) {
 }
 
 // The parts of a text, and the sections of the list that it names.
-const NAMED: [(&[&[u8]], &[&[u8]]); 8] = [
+static NAMED: [(&[&[u8]], &[&[u8]]); 8] = [
     (&[b"ca: all\n# c\n\nserial: 5"], &[FIVE]),
     (&[b"ca: all\n \t\r\n#key: c\n\t# c\r\nserial: 5"], &[FIVE]),
     (&[b"ca-blob: eA==\n\n# c\nca: all\n\nid: a"], &[ID_A]),
@@ -137,7 +137,7 @@ fn what_lines_are_under(rt: HostRuntime) {
 }
 
 // Texts, and the first line that lacks its authority.
-const LACKING: [(&[u8], u64); 8] = [
+static LACKING: [(&[u8], u64); 8] = [
     (b"key-blob: AQ==\nserial: 5", 2),
     (b"ca: all\nkey-blob: AQ==\nserial: 5", 3),
     (

@@ -16,7 +16,7 @@ const NO_LAST_DAY: &str = "text 19 NoLastDay";
 const DATE_IN_COMMENT: &str = "text 20 DateInComment";
 
 // Days of the calendar, and texts that are none.
-const NUMBERED: [(&[u8], Option<i32>); 18] = [
+static NUMBERED: [(&[u8], Option<i32>); 18] = [
     (b"1970-01-01", Some(0)),
     (b"1969-12-31", Some(-1)),
     (b"2000-02-29", Some(11_016)),
@@ -45,7 +45,7 @@ fn days_are_numbered(rt: HostRuntime) {
 }
 
 // Texts with last days, and the same without.
-const SAME: [(&[&[u8]], &[&[u8]]); 13] = [
+static SAME: [(&[&[u8]], &[&[u8]]); 13] = [
     (
         &[b"ca: all\nuntil 2026-11-15 serial: 5"],
         &[b"ca: all\nserial: 5"],
@@ -95,7 +95,7 @@ fn up_to_a_day(rt: HostRuntime) {
 }
 
 // The parts of texts, the line of the first fault, and its name.
-const FAULTY: [(&[&[u8]], u64, &str); 33] = [
+static FAULTY: [(&[&[u8]], u64, &str); 33] = [
     (&[b"until 2026-02-29 @all serial: 5"], 1, BAD_DATE),
     (&[b"until tomorrow @all serial: 5"], 1, BAD_DATE),
     (&[b"until @all serial: 5"], 1, BAD_DATE),
@@ -185,7 +185,7 @@ fn faults_of_days(rt: HostRuntime) {
 }
 
 // Texts, and the words for their faults.
-const TOLD: [(&[u8], &[u8]); 17] = [
+static TOLD: [(&[u8], &[u8]); 17] = [
     (
         b"untill 2026-11-15 @all id: a",
         b"a last day comes first on a line: until YYYY-MM-DD [text 7 UnknownWord]\n",
@@ -310,7 +310,7 @@ fn lines_that_are_over(rt: HostRuntime) {
 }
 
 // How many lines are over, and how the line about the list ends.
-const COUNTED: [(u64, &[u8]); 3] = [
+static COUNTED: [(u64, &[u8]); 3] = [
     (0, b"nothing\n"),
     (1, b"nothing; 1 entry is over\n"),
     (2, b"nothing; 2 entries are over\n"),

@@ -18,7 +18,7 @@ const SEVERAL: &str = "text 13 SeveralIds";
 const DATED: &str = "text 21 DateInId";
 
 // The values of lines, and how their fault prints.
-const REFUSED: [(&[u8], &str); 28] = [
+static REFUSED: [(&[u8], &str); 28] = [
     (b"\"bob\"", QUOTED),
     (b"\"\"", QUOTED),
     (b"'x'", QUOTED),
@@ -84,7 +84,7 @@ fn list_of(rt: &impl Abort, alloc: Global, held: &Revocations<Held>) -> Vec<u8> 
 }
 
 // The values of lines, and the key IDs that they name.
-const TAKEN: [(&[u8], &[u8]); 16] = [
+static TAKEN: [(&[u8], &[u8]); 16] = [
     (b"\"", b"\""),
     (b"'", b"'"),
     (b"'x\"", b"'x\""),
@@ -116,7 +116,7 @@ fn key_ids_as_they_are(rt: HostRuntime) {
 }
 
 // Key IDs, and their lines in the text of a list.
-const SHOWN: [(&[u8], &[u8]); 23] = [
+static SHOWN: [(&[u8], &[u8]); 23] = [
     (b"\"x\"", b"id-hex: 227822"),
     (b"'x'", b"id-hex: 277827"),
     (b"\"\"", b"id-hex: 2222"),

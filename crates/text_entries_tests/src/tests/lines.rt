@@ -28,7 +28,7 @@ pub fn made(rt: &impl Abort, alloc: Global, text: &[u8]) -> Result<Vec<u8>, Text
 }
 
 // The parts of a text, and the sections of the list that it names.
-const NAMED: [(&[&[u8]], &[&[u8]]); 28] = [
+static NAMED: [(&[&[u8]], &[&[u8]]); 28] = [
     (&[b""], &[]),
     (&[b"# a comment\n \t\r\n"], &[]),
     (&[b"ca: all"], &[]),
@@ -119,7 +119,7 @@ fn what_texts_name(rt: HostRuntime) {
 }
 
 // The parts of a text, its first line with a fault, and how that fault prints.
-const REFUSED: [(&[&[u8]], u64, &str); 42] = [
+static REFUSED: [(&[&[u8]], u64, &str); 42] = [
     (&[b"serial: 5"], 1, "text 1 Spec, spec 4 NoAuthority"),
     (&[b"id: a"], 1, "text 1 Spec, spec 4 NoAuthority"),
     (&[b"\nid-hex: xx"], 2, "text 1 Spec, spec 4 NoAuthority"),
@@ -218,7 +218,7 @@ fn first_faults(rt: HostRuntime) {
 
 // Words that other files of keys may have before a key, or that a misspelt line of a text has. If
 // they were taken for options, the key of a CA would be revoked.
-const BEFORE_A_KEY: [&[u8]; 22] = [
+static BEFORE_A_KEY: [&[u8]; 22] = [
     b"ca ",
     b"ca : ",
     b"ca= ",
@@ -257,7 +257,7 @@ fn nothing_before_a_key(rt: HostRuntime) {
 }
 
 // The words whose value is a key line.
-const OF_KEYS: [&[u8]; 4] = [b"ca: ", b"key: ", b"sha1: ", b"sha256: "];
+static OF_KEYS: [&[u8]; 4] = [b"ca: ", b"key: ", b"sha1: ", b"sha256: "];
 
 #[test]
 fn nothing_between_a_word_and_its_key(rt: HostRuntime) {

@@ -24,7 +24,7 @@ fn held_of(rt: &impl Abort, alloc: Global, text: &[u8]) -> Revocations<Held> {
 }
 
 // The text of what is lost, and how the line about the list ends.
-const LOST: [(&[u8], &[u8]); 9] = [
+static LOST: [(&[u8], &[u8]); 9] = [
     (b"", b""),
     (b"ca: all\n", b""),
     (b"ca: all\nid: bob", b"; 1 key ID is no longer revoked"),
@@ -87,7 +87,7 @@ fn said_over(rt: &impl Abort, alloc: Global, over: Over, old: &[u8], new: &[u8])
 }
 
 // An old text, a new one, and how the line about the list of the new one ends.
-const OVER: [(&[u8], &[u8], &[u8]); 5] = [
+static OVER: [(&[u8], &[u8], &[u8]); 5] = [
     (b"ca: all\nserial: 5", b"ca: all\nserial: 5", b""),
     (b"ca: all\nserial: 5", b"ca: all\nserial: 4-6", b""),
     (

@@ -23,7 +23,7 @@ const CA_OF_OTHER: &[u8] = b"ca: ssh-ed25519 \
 AAAAC3NzaC1lZDI1NTE5AAAAIBERERERERERERERERERERERERERERERERERERERERER\n";
 
 // Lines with names, and the same without.
-const SAME: [(&[&[u8]], &[&[u8]]); 14] = [
+static SAME: [(&[&[u8]], &[&[u8]]); 14] = [
     (&[b"@o: ", OTHER_LINE], &[]),
     (&[b"@all serial: 5"], &[b"ca: all\nserial: 5"]),
     (&[b" @all\tID-HEX:61 # c\r"], &[b"ca: all\nid: a"]),
@@ -119,7 +119,7 @@ fn all_authorities(rt: HostRuntime) {
 }
 
 // The parts of a text, the number of its line that has the fault, and the fault.
-const FAULTY: [(&[&[u8]], u64, &str); 34] = [
+static FAULTY: [(&[&[u8]], u64, &str); 34] = [
     (&[b"@: ", OTHER_LINE], 1, BAD_NAME),
     (&[b"@all: ", OTHER_LINE], 1, BAD_NAME),
     (&[b"@a+b: ", OTHER_LINE], 1, BAD_NAME),
@@ -195,7 +195,7 @@ fn names_of_two_texts(rt: HostRuntime) {
 }
 
 // The parts of two texts, and the line about the fault of the second one.
-const TOLD: [(&[&[u8]], &[&[u8]], &[u8]); 17] = [
+static TOLD: [(&[&[u8]], &[&[u8]], &[u8]); 17] = [
     (
         &[b"\n@user: ", OTHER_LINE],
         &[b"@user: ", GITHUB_LINE],

@@ -85,7 +85,7 @@ fn of_two_texts(rt: HostRuntime) {
 }
 
 // The parts of texts, and the line about their fault.
-const REFUSED: [(&[Option<&[&[u8]]>], &[u8]); 6] = [
+static REFUSED: [(&[Option<&[&[u8]]>], &[u8]); 6] = [
     (
         &[Some(&[b"ca: all\n\n"])],
         b"krl: r.krl: the list would revoke nobody: no text has an entry, or each is over \
@@ -144,7 +144,7 @@ fn faults(rt: HostRuntime) {
 }
 
 // A text, whether it is a regular file, and whether it is refused since it has no entry.
-const MUTE: [(&[u8], bool, bool); 11] = [
+static MUTE: [(&[u8], bool, bool); 11] = [
     (b"", true, true),
     (b" \t\r\n\n", true, true),
     (b"# c", true, false),
@@ -186,7 +186,7 @@ fn texts_without_an_entry(rt: HostRuntime) {
 }
 
 // A text, its line with a misspelt word, that word as it is shown, and the word that was meant.
-const MISSPELT: [(&[u8], &[u8], &[u8], &[u8]); 28] = [
+static MISSPELT: [(&[u8], &[u8], &[u8], &[u8]); 28] = [
     (b"serials: 5", b"1", b"serials", b"serial"),
     (b"ca: all\n# c\nseria: 5", b"3", b"seria", b"serial"),
     (b"\tSERIALS: 5\r\n", b"1", b"SERIALS", b"serial"),
@@ -224,7 +224,7 @@ const MISSPELT: [(&[u8], &[u8], &[u8], &[u8]); 28] = [
 ];
 
 // Lines with a word that is two letters off, and with one behind something.
-const UNKNOWN: [&[u8]; 10] = [
+static UNKNOWN: [&[u8]; 10] = [
     b"Serals: 5",
     b"sreail: 5",
     b"ahhs: x",
@@ -238,7 +238,7 @@ const UNKNOWN: [&[u8]; 10] = [
 ];
 
 // Lines that begin with a word of a text or with the type of a key, but have no key.
-const KEYLESS: [&[u8]; 8] = [
+static KEYLESS: [&[u8]; 8] = [
     b"ca: ids: 5",
     b"ca: key",
     b"key:",
@@ -250,7 +250,7 @@ const KEYLESS: [&[u8]; 8] = [
 ];
 
 // Lines whose fault says what they may be meant as: the text, its line, and what is said.
-const MEANT: [(&[u8], &[u8], &[u8]); 15] = [
+static MEANT: [(&[u8], &[u8], &[u8]); 15] = [
     (b"SHA256:AAAA", b"1", NO_HASH),
     (b"# c\n\tSHA1:AAAA \r\n", b"2", NO_HASH),
     (b"key: alice.pub", b"1", NO_FILE),
@@ -269,7 +269,7 @@ const MEANT: [(&[u8], &[u8], &[u8]); 15] = [
 ];
 
 // The same for serial numbers, for key IDs that may be others, and for a CA that is not current.
-const SLIPS: [(&[u8], &[u8], &[u8]); 22] = [
+static SLIPS: [(&[u8], &[u8], &[u8]); 22] = [
     (b"ca: all\nserial: 010", b"2", LEADING_ZERO),
     (b"ca: all\n\nserial: 1 - 010 # c", b"3", LEADING_ZERO),
     (b"ca: all\nserial: 1f3", b"2", HEXADECIMAL),

@@ -14,7 +14,7 @@ const NUMBER: &str = "text 1 Spec, spec 1 Number";
 const ZERO: &str = "text 1 Spec, spec 2 Zero";
 
 // The values of lines, and how their fault prints.
-const REFUSED: [(&[u8], &str); 15] = [
+static REFUSED: [(&[u8], &str); 15] = [
     (b"00", LEADING_ZERO),
     (b"01", LEADING_ZERO),
     (b"010", LEADING_ZERO),
@@ -35,7 +35,7 @@ const REFUSED: [(&[u8], &str); 15] = [
 ];
 
 // The same for ranges.
-const REFUSED_RANGES: [(&[u8], &str); 18] = [
+static REFUSED_RANGES: [(&[u8], &str); 18] = [
     (b"1-010", LEADING_ZERO),
     (b"010-1", LEADING_ZERO),
     (b"1 - 010", LEADING_ZERO),
@@ -99,7 +99,7 @@ fn list_of_serials(rt: &impl Abort, alloc: Global, given: &[u8]) -> Result<Vec<u
 }
 
 // Serial numbers, and the same ones in decimal digits.
-const SAME: [(&[u8], &[u8]); 11] = [
+static SAME: [(&[u8], &[u8]); 11] = [
     (b"0x10-0x20", b"16-32"),
     (b"0x10 - 32", b"16-32"),
     (b"16-0X20", b"16-32"),

@@ -8,9 +8,9 @@ pub returns : goal.returns
 returns g c =
     let inside = c.round.inside in
     ends_as_meant _ _ _ _ _ _ _ _ _ _ (record { counts = inside.auditor.counts; files = inside.files }) (search rules)
-    (λ reasons judges.
+    (λ answers judges.
     let taken = g.W.Sink.taken c.args.out.now in
     let audits = rw c.new-round.ensures at c.audit_all-stop.ensures.all in
-    let was = audits reasons taken judges refl (rw (c.new-printer.ensures, c.requires.working) (begun taken _)) in
+    let was = audits answers taken judges refl (rw (c.new-printer.ensures, c.requires.working) (begun taken _)) in
     let all = rw (sym c.round.view_is) at was in
     (c.audit_all-stop.result, all.0, (all.1.0, (ends_there all.0 inside.auditor.counts taken _ _ _ _ _ _ (record { ends = (c.finish.ensures.ends taken all.0 all.1.1.0).0; status_is = search rules }) (search rules) (search rules), stop_is_kept c.audit_all-stop.result all.0 taken _ _ _ _ _ all.1.1.0 c.finish.ensures.ends))))

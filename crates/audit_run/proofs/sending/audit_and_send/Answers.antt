@@ -3,5 +3,5 @@ use Rattle.audit_run.proofs.Flushing.{told_and_sent}
 use Rattle.audit_run.proofs.sending.audit_and_send.Goals as goal
 
 pub returns-in-Ok-clause-told : goal.returns-in-Ok-clause-told
-returns-in-Ok-clause-told g c = λ reasons judges.
-    told_and_sent _ _ _ _ _ _ _ _ _ _ _ (c.in-Ok.ensures.told reasons judges) c.flush.ensures.carries
+returns-in-Ok-clause-told g c = λ answers judges.
+    told_and_sent _ _ _ _ _ _ _ _ _ _ _ (c.in-Ok.ensures.told answers judges) c.flush.ensures.carries

@@ -6,8 +6,8 @@ use Rattle.audit_text.proofs.Shallow.{key_object_fits, more_object_fits, same_ob
 use Rattle.audit_text.proofs.laws.objects_are_read_back.Goals as goal
 
 pub returns-clause-key : goal.returns-clause-key
-returns-clause-key c = λ name number found all small.
-    let fit = key_object_fits name number found all small in c.lines_are_read_back.ensures (key_object name number found all) fit.0 (shallow (key_object name number found all) fit)
+returns-clause-key c = λ name number found answer small numbers.
+    let fit = key_object_fits name number found answer small numbers in c.lines_are_read_back.ensures (key_object name number found answer) fit.0 (shallow (key_object name number found answer) fit)
 
 pub returns-clause-unread : goal.returns-clause-unread
 returns-clause-unread c = λ name number why small.

@@ -1,12 +1,15 @@
--- The audit is begun, by the names of a file or of standard input, if any are given.
-use Rattle.krl.specs.Audit.{by_file, by_input}
+-- The list and the texts are those of the task.
+use Rattle.krl.specs.Audit.{audited}
 use Rattle.krl.proofs.audit.audit.Goals as goal
 
-pub returns-in-None : goal.returns-in-None
-returns-in-None c = by_file _ _ _ c.audit_by.ensures
-
-pub returns-in-Some-text : goal.returns-in-Some-text
-returns-in-Some-text c = by_input _ _ _ c.audit_by-in-Some-text.ensures
-
-pub returns-in-Ok-open : goal.returns-in-Ok-open
-returns-in-Ok-open c = by_file _ _ _ c.audit_by-in-Ok-open.ensures
+pub returns : goal.returns
+returns c =
+    audited _ c.as_ref.result
+    (record {
+      date = c.in-Ok-date_of.date;
+      texts = c.in-Ok.texts.items;
+      named = rw c.as_slice.ensures.value at c.in-Ok.ensures;
+      indexed = rw c.as_ref.ensures.value (rw c.as_slice-3.ensures.value at c.in-Ok-index_of.ensures.indexed);
+      list = rw (c.list_name.ensures, c.as_slice-4.ensures.value) at c.in-Ok-asked_list.ensures.list;
+    })
+    c.audit_list.ensures

@@ -11,7 +11,7 @@ pub returns-in_err-add_text : goal.returns-in_err-add_text
 returns-in_err-add_text g c =
     let p = err_from_is_err_and c.from_residual.result c.from_residual.ensures.1 in
     let at = rw (texts_next c.args.texts.now c.loop-text.text-index c.text-item.result c.text-item.is c.loop-text-test.true) at c.loop-text.invariant in
-    rw (p.1, p.2) (text_stops _ _ _ _ _ _ _ _ at c.in_err-add_text.ensures)
+    rw (p.1, p.2) (text_stops _ _ _ _ _ _ at.are c.in_err-add_text.ensures)
 
 pub loop-text-preserved : goal.loop-text-preserved
 loop-text-preserved g c =

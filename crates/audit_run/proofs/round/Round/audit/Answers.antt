@@ -10,8 +10,8 @@ returns-in-Err g c =
     rw (sym c.self.view_is, c.stop_by.ensures) (record {
       audits = record {
         judge = c.in-Err.ensures.judge;
-        audits = λ reasons judges. file_stopped _ c.args.key c.args.name.now content c.in-Err.fault _ _
-            (c.in-Err.ensures.told reasons judges) (rw (sym c.self.view_is) at c.requires);
+        audits = λ answers judges. file_stopped _ c.args.key c.args.name.now content c.in-Err.fault _ _
+            (c.in-Err.ensures.told answers judges) (rw (sym c.self.view_is) at c.requires);
       };
       since = tt;
     })
@@ -22,8 +22,8 @@ returns-then-ends_at g c =
     rw (sym c.self.view_is) (record {
       audits = record {
         judge = c.in_default.ensures.judge;
-        audits = λ reasons judges. file_revoked _ c.args.key c.args.name.now content tt _ _ c.keep.new.self c.ends_at.result
-            (c.in_default.ensures.told reasons judges) (rw (sym c.self.view_is) at c.requires) c.in_ok-keep.ensures
+        audits = λ answers judges. file_revoked _ c.args.key c.args.name.now content tt _ _ c.keep.new.self c.ends_at.result
+            (c.in_default.ensures.told answers judges) (rw (sym c.self.view_is) at c.requires) c.in_ok-keep.ensures
             c.count.ensures c.ends_at.ensures c.if-ends_at.true;
       };
       since = tt;
@@ -36,8 +36,8 @@ returns g c =
     rw (sym c.self.view_is, shown) (record {
       audits = record {
         judge = c.in_default.ensures.judge;
-        audits = λ reasons judges. file_met _ c.args.key c.args.name.now content tt _ _ c.keep.new.self c.ends_at.result
-            c.in_default.ensures.judge (c.in_default.ensures.told reasons judges) (rw (sym c.self.view_is) at c.requires)
+        audits = λ answers judges. file_met _ c.args.key c.args.name.now content tt _ _ c.keep.new.self c.ends_at.result
+            c.in_default.ensures.judge (c.in_default.ensures.told answers judges) (rw (sym c.self.view_is) at c.requires)
             c.in_ok-keep.ensures c.count.ensures c.ends_at.ensures c.if-ends_at.false;
       };
       since = gave_since _ _ c.args.key c.args.name.now content refl refl;

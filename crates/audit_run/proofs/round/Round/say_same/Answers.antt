@@ -9,7 +9,7 @@ returns-in-Err g c =
     rw (sym c.self.view_is, c.stop_by.ensures) (record {
       audits = record {
         judge = c.in-Err.ensures.judge;
-        audits = λ reasons judges. met_stopped _ (Same (is_told c.self.inside.files c.args.key) c.args.key c.args.name.now) c.in-Err.fault _ _
+        audits = λ answers judges. met_stopped _ (Same (is_told c.self.inside.files c.args.key) c.args.key c.args.name.now) c.in-Err.fault _ _
             (rw c.is_told-is_told.ensures at c.in-Err.ensures.said) (rw (sym c.self.view_is) at c.requires, refl);
       };
       since = tt;
@@ -20,7 +20,7 @@ returns g c =
     rw (sym c.self.view_is, c.show.ensures) (record {
       audits = record {
         judge = c.in_default.ensures.judge;
-        audits = λ reasons judges. met _ (Same (is_told c.self.inside.files c.args.key) c.args.key c.args.name.now) tt _ _
+        audits = λ answers judges. met _ (Same (is_told c.self.inside.files c.args.key) c.args.key c.args.name.now) tt _ _
             (rw c.is_told-is_told.ensures at c.in_default.ensures.said) (rw (sym c.self.view_is) at c.requires, refl) (rw (c.in_ok-count_same.ensures, c.in_default.ensures.counts) refl)
             (λ silent. not_more c.self.inside.auditor.counts.revoked);
       };

@@ -10,13 +10,13 @@ use Rattle.krl_audit.proofs.auditor.Auditor.audit_from.Goals as goal
 pub returns-in_err-tally-clause-told : goal.returns-in_err-tally-clause-told
 returns-in_err-tally-clause-told g c =
     let p = err_from_is_err_and c.from_residual.result c.from_residual.ensures.1 in
-    rw (p.1, p.2) (λ given gives reasons judges. told_stop reasons _ c.args.name.now none_yet (place_all 1 given) (placed_from 2 (read_all c.args.fronts (lines_left c.args.after))) _ _ _ _ _ _ (c.in_err-tally.ensures.told given gives reasons judges))
+    rw (p.1, p.2) (λ given gives answers judges. told_stop answers _ c.args.name.now none_yet (place_all 1 given) (placed_from 2 (read_all c.args.fronts (lines_left c.args.after))) _ _ _ _ _ _ (c.in_err-tally.ensures.told given gives answers judges))
 
 pub returns-in-None-clause-told : goal.returns-in-None-clause-told
 returns-in-None-clause-told g c =
-    rw c.in-None.is (λ given gives reasons judges. told_then reasons _ c.args.name.now none_yet (place_all 1 given) [] _ _ _ _ _ _ _ _ (c.in_ok-tally.ensures.told given gives reasons judges) (told_none reasons _ c.args.name.now _ _ _))
+    rw c.in-None.is (λ given gives answers judges. told_then answers _ c.args.name.now none_yet (place_all 1 given) [] _ _ _ _ _ _ _ _ (c.in_ok-tally.ensures.told given gives answers judges) (told_none answers _ c.args.name.now _ _ _))
 
 pub returns-in-Some-clause-told : goal.returns-in-Some-clause-told
 returns-in-Some-clause-told g c =
     let later = rw c.in_ok-tally.ensures.judge at c.audit_rest.ensures.told in
-    rw c.in-Some.is (λ given gives reasons judges. told_then reasons _ c.args.name.now none_yet (place_all 1 given) _ _ _ _ _ _ _ _ _ (c.in_ok-tally.ensures.told given gives reasons judges) (later reasons judges))
+    rw c.in-Some.is (λ given gives answers judges. told_then answers _ c.args.name.now none_yet (place_all 1 given) _ _ _ _ _ _ _ _ _ (c.in_ok-tally.ensures.told given gives answers judges) (later answers judges))

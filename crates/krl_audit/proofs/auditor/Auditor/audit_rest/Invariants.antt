@@ -5,7 +5,7 @@ use Rattle.key_text.specs.Lines.{is_newline}
 use Rattle.run_faults.specs.RunFault.{RunFault}
 use Rattle.run_output.specs.Printer.{Printer}
 use Rattle.krl_types.specs.Subject.{Subject}
-use Rattle.krl_entries.specs.declared.reasons.Reasons.{Reasons}
+use Rattle.audit_text.specs.Answer.{Answer}
 use Rattle.krl_audit.specs.Audit.{JudgesAs, Told}
 use Rattle.audit_lines.specs.Outcome.{placed_from, read_all}
 use Rattle.krl_audit.specs.declared.counts.Counts.{Counts}
@@ -14,9 +14,9 @@ use Rattle.krl_audit.proofs.auditor.Auditor.audit_rest.Given as goal
 
 abbrev pub invariant-loop-tally : goal.invariant-loop-tally
 invariant-loop-tally g l = record {
-  told : (reasons : Subject → Reasons) → JudgesAs l.initial.self.judge reasons → (result : Result Tally RunFault) (new : Printer) (after : Counts)
-      → Told reasons l.initial.self.judge.shown l.name l.tally (placed_from (l.number + 1) (read_all l.fronts (slice_split is_newline l.rest))) result l.self.run.printer new l.self.counts after
-      → Told reasons l.initial.self.judge.shown l.name l.initial.tally (placed_from (l.initial.number + 1) (read_all l.fronts (slice_split is_newline l.fn.text))) result l.initial.self.run.printer new l.initial.self.counts after;
+  told : (answers : Subject → Answer) → JudgesAs l.initial.self.judge answers → (result : Result Tally RunFault) (new : Printer) (after : Counts)
+      → Told answers l.initial.self.judge.shown l.name l.tally (placed_from (l.number + 1) (read_all l.fronts (slice_split is_newline l.rest))) result l.self.run.printer new l.self.counts after
+      → Told answers l.initial.self.judge.shown l.name l.initial.tally (placed_from (l.initial.number + 1) (read_all l.fronts (slice_split is_newline l.fn.text))) result l.initial.self.run.printer new l.initial.self.counts after;
   judge : l.self.judge ≡ l.initial.self.judge;
   within : l.number + length l.rest ≤ l.initial.number + length l.fn.text;
 }

@@ -8,11 +8,13 @@ use Rattle.text_index.proofs.name_index.NameIndex.put.Goals as goal
 pub returns-in-Some : goal.returns-in-Some
 returns-in-Some c =
     let set = (c.get_mut.follows.holds c.push.new.postings).0 in
-    on_ok_weaker c.push.result
-    (λ is. puts_set c.args.key.now c.args.posting c.args.self.now _ c.in-Some.postings.now c.push.new.postings (sym c.in-Some.ensures.value) set is) c.push.ensures
+    rw (← c.self.view_is)
+    (on_ok_weaker c.push.result
+    (λ is. puts_set c.args.key.now c.args.posting _ _ c.in-Some.postings.now c.push.new.postings (sym c.in-Some.ensures.value) set is) c.push.ensures)
 
 pub returns : goal.returns
 returns c =
     let inserted = rw c.get_mut.follows.holds-at-none at c.in_ok-insert.ensures.entries in
-    puts_inserted c.in_ok-key.key c.args.key.now c.args.posting c.args.self.now _ c.push-2.new.postings c.in_ok-key.ensures.items (sym c.in_default.ensures.value) inserted
-    (c.in_ok-push.ensures ∙ ap (λ (postings : List Posting). postings ++ c.args.posting ∷ []) c.in_ok-postings.ensures.items)
+    rw (← c.self.view_is)
+    (puts_inserted c.in_ok-key.key c.args.key.now c.args.posting _ _ c.push-2.new.postings c.in_ok-key.ensures.items (sym c.in_default.ensures.value) inserted
+    (c.in_ok-push.ensures ∙ ap (λ (postings : List Posting). postings ++ c.args.posting ∷ []) c.in_ok-postings.ensures.items))
