@@ -1,4 +1,4 @@
--- What is known about a key.
+-- The answer about a key.
 use Rattle.std.specs.Prelude.{ℕ, ◌<◌, ◌^◌, Option, Some, None}
 use Rattle.std.specs.List.{AllByRecursion}
 use Rattle.krl_types.specs.Subject.{Subject}

@@ -39,7 +39,7 @@ pub record IsListOf (name : List ℕ) (date : ℕ) (texts : List Text) (bytes : 
   pub lost : Revocations
   pub makes : MakesOver inputs None bytes version contents lost
 
--- the list that is given, of whose bytes nothing is known, or else the one that the texts make
+-- nothing is claimed about the bytes of a given list; otherwise the texts make the list
 abbrev pub IsListBy : Option (Bor (List ℕ)) → (name : List ℕ) → (date : ℕ) → List Text
     → (bytes : List ℕ) → Type 0
 IsListBy None name date texts bytes = IsListOf name date texts bytes

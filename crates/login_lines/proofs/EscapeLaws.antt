@@ -158,7 +158,7 @@ octal_read byte text bytes fits is =
     escapes_octal (48 + byte / 64) (48 + byte / 8 % 8) (48 + byte % 8) byte text bytes (digit_no_letter (48 + byte / 64) (omega arith) (omega arith))
     (octal_is (byte / 64) (byte / 8 % 8) (byte % 8) (omega arith) (omega arith) (omega arith) ∙ ap (λ (k : ℕ). Some k) value) is
 
--- each letter stands for the byte in its row
+-- each letter represents the byte in its row
 abbrev Stand : List (ℕ × ℕ) → Type 0
 Stand [] = Unit {0}
 Stand (row ∷ rows) = (letter_of row.0 ≡ Some row.1) × Stand rows

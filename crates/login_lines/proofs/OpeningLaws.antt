@@ -1,4 +1,4 @@
--- What a message reports, by its first words.
+-- The kind of a message, by its first words.
 use Rattle.std.proofs.Common.{◌≡◌, List, ℕ, ◌++◌, Option, Some, None, refl, ap, ◌∙◌, inl, inr, ◌⊎◌}
 use Rattle.std.specs.Option.{option_or}
 use Rattle.login_lines.specs.declared.opening.Opening.{Opening}

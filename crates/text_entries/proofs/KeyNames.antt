@@ -77,7 +77,7 @@ unknown names key name other none = elim (cases_Bool (bytes_eq other key)) [
 
 -- ---- the names so far, and others
 
--- the name that was found, or else a later one
+-- the found name, or otherwise a later one
 abbrev pub or_later : (found later : Option (List ℕ)) → Option (List ℕ)
 or_later (Some name) later = Some name
 or_later None later = later

@@ -13,8 +13,8 @@ use krl_spec::position_of;
 // The name of each type of keys is shorter.
 const LONGEST: usize = 64;
 
-/// Why text is not taken for a key ID: it looks like something else. Such an ID is given by its
-/// bytes.
+/// Why text is not taken for a key ID: it looks like something else. `id-hex:` gives such a
+/// key ID by its bytes.
 pub fn no_id(text: &[u8]) -> Option<TextCause>
     ensures { result ≡ no_id text.now }
 {

@@ -1,4 +1,4 @@
--- What is kept under keys.
+-- The postings of an index, by their keys.
 use Rattle.std.specs.Prelude.{ℕ, List}
 use Rattle.std.specs.Global.{Vec}
 use Rattle.text_index.specs.declared.posting.Posting.{Posting}

@@ -65,7 +65,7 @@ fact_is_line standing names fact fits =
 
 -- ---- facts in a row
 
--- each fact fits what stands there
+-- each fact fits the current standing
 abbrev pub AllFit : NameOfKey → Standing → List Fact → Type 0
 AllFit names standing [] = Unit {0}
 AllFit names standing (fact ∷ facts) = FitsUnder standing names fact × AllFit names (standing_after (fact_says names fact) standing) facts
