@@ -5,3 +5,4 @@ pub mod NamedKeys
 pub mod OneOff
 pub mod LastDays
 pub mod KeyNames
+pub mod DaySearch

@@ -12,6 +12,7 @@ use crate::misspelt::is_word_end;
 use jiff_core::civil::{Date, days_in_month};
 use key_text::{after_blanks, is_blank};
 use krl_spec::position_of;
+use memchr::memchr2;
 
 // The bytes of a day.
 const SIZE: usize = 10;
@@ -172,16 +173,17 @@ pub(crate) fn has_day_in_comment(line: &[u8]) -> bool
 }
 
 /// Whether the word of a last day and a date are somewhere in a text.
-#[tactic(auto, unfolding(crate::specs::Day::says_until))]
 pub(crate) fn says_until(text: &[u8]) -> bool
     ensures { result ≡ says_until text.now }
 {
+    // Most bytes are skipped by the search for the first letter, many at a time.
     let mut rest = text;
-    'bytes: while let [_, after @ ..] = rest {
-        if begins_with_day(rest) {
+    'words: while let Some(at) = memchr2(b'u', b'U', rest) {
+        let word = &rest[at..];
+        if begins_with_day(word) {
             return true;
         }
-        rest = after;
+        rest = &word[1..];
     }
     false
 }

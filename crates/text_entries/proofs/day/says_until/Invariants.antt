@@ -3,8 +3,8 @@ use Rattle.std.proofs.Common.{◌≡◌, length}
 use Rattle.text_entries.specs.Day.{says_until}
 use Rattle.text_entries.proofs.day.says_until.Given as goal
 
-abbrev pub invariant-bytes : goal.invariant-bytes
-invariant-bytes l = says_until l.rest ≡ says_until l.fn.text
+abbrev pub invariant-words : goal.invariant-words
+invariant-words l = says_until l.rest ≡ says_until l.fn.text
 
-abbrev pub decreases-bytes : goal.decreases-bytes
-decreases-bytes l = length l.rest
+abbrev pub decreases-words : goal.decreases-words
+decreases-words l = length l.rest
