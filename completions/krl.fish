@@ -1,15 +1,19 @@
 # What fish offers for the words of krl, as its help has them.
 
 set -l audits '__fish_seen_subcommand_from audit'
+set -l searches '__fish_seen_subcommand_from logins'
 set -l checks '__fish_seen_subcommand_from check'
 set -l shows '__fish_seen_subcommand_from show'
 set -l makes '__fish_seen_subcommand_from make'
 set -l diffs '__fish_seen_subcommand_from diff'
-set -l none "not $audits; and not $checks; and not $shows; and not $makes; and not $diffs"
+set -l none "not $audits; and not $searches; and not $checks; and not $shows; and not $makes"
+set -l none "$none; and not $diffs"
 
 complete -c krl -f
 complete -c krl -n "$none" -a audit \
   -d 'Find revoked keys in files'
+complete -c krl -n "$none" -a logins \
+  -d 'Find logins with revoked keys in logs'
 complete -c krl -n "$none" -a check \
   -d 'Check a list before it is put in force'
 complete -c krl -n "$none" -a show \
@@ -37,6 +41,13 @@ complete -c krl -n "$audits" -l exclude -x \
 complete -c krl -n "$audits" -l json -d 'Print one JSON object on a line for each finding'
 complete -c krl -n "$audits" -l files0-from -rF \
   -d 'Read names of files, each ended by a zero byte'
+complete -c krl -n "$searches" -F
+complete -c krl -n "$searches" -s f -rF -d 'The revocation list'
+complete -c krl -n "$searches" -s t -rF \
+  -d 'Name the lines of this text that explain a login'
+complete -c krl -n "$searches" -s a -d 'Name the logins that are not revoked as well'
+complete -c krl -n "$searches" -s q -d 'Print nothing on standard output'
+complete -c krl -n "$searches" -l json -d 'Print one JSON object on a line for each login'
 complete -c krl -n "$checks" -F
 complete -c krl -n "$checks" -l newer-than -rF -d 'Refuse a version below that of this list'
 complete -c krl -n "$checks" -l superset-of -rF \
@@ -49,6 +60,7 @@ complete -c krl -n "$checks" -l canary -rF \
   -d 'Refuse a list that does not revoke each key of this file'
 complete -c krl -n "$checks" -l allow-empty -d 'Take a list that revokes nobody'
 complete -c krl -n "$checks" -l json -d 'Print each condition as a JSON object'
+complete -c krl -n "$checks" -l names -rF -d 'Name the CAs as this text of a list does'
 complete -c krl -n "$checks" -l print-version -d 'Print the version of the list alone'
 complete -c krl -n "$shows" -F
 complete -c krl -n "$shows" -l json -d 'Print one JSON object on a line for each entry'

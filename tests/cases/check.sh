@@ -1,5 +1,5 @@
 # krl check: each condition both ways, lists that OpenSSH refuses or reads as other names, truncated
-# lists, statuses, and files that are missing.
+# lists, the names of CAs, statuses, and files that are missing.
 
 keygen=$program
 program=$krl
@@ -129,6 +129,96 @@ $range- key: $(line ssh-ed25519 "$G") # $(fingerprint "$G")
 lost: more.krl: 2 entries are not in 8.krl
 a.pub:1: ok: ssh-ed25519 $(fingerprint "$A"): alice
 canary: a.pub: 0 of 1 key is revoked, $zeros" --canary a.pub --superset-of more.krl 8.krl
+
+# The names that texts give to the CAs of what is lost. A CA without a name keeps its line.
+# of_ca CA TYPE DIGITS: a section of one CA, with one subsection.
+of_ca() {
+  printf 01
+  string "$(string "$1")$(words '')$2$(string "$3")"
+}
+bytes "$H" "$(of_ca '' 20 0000000000000003)" "$(of_ca "$A" 20 00000000000000070000000000000009)" \
+  "$(of_ca "$A" 23 "$(words bob eve)")" "$(of_ca "$B" 20 0000000000000008)" \
+  "$(section "$A")" >of-two.krl
+bytes "$H" "$(of_ca "$A" 20 0000000000000007)" "$(of_ca "$A" 23 "$(words eve)")" >some.krl
+printf '@users: %s of a # until 2001-02-03\n@users id: x\n' "$(line ssh-ed25519 "$A")" >of-a
+printf '@zed: %s\n@hosts: %s\n' "$(line ssh-ed25519 "$B")" "$(line ssh-ed25519 "$B")" >of-b
+printf '@nobody: %s\n' "$(line ssh-ed25519 "$G")" >of-none
+line_of_a="ca: $(line ssh-ed25519 "$A") # $(fingerprint "$A")"
+line_of_b="ca: $(line ssh-ed25519 "$B") # $(fingerprint "$B")"
+key_of_a="- key: ${line_of_a#ca: }"
+end='lost: of-two.krl: 5 entries are not in some.krl'
+for words in '' '--names of-none'; do
+  # shellcheck disable=SC2086
+  checks "what is lost of two CAs without a name: $words" 1 "  ca: all
+- serial: 3
+  $line_of_a
+- serial: 9
+- id: bob
+  $line_of_b
+- serial: 8
+$key_of_a
+$end" $words --superset-of of-two.krl some.krl
+done
+checks 'what is lost of two CAs, by the name of one' 1 "  ca: all
+- serial: 3
+  @users: ${line_of_a#ca: }
+- @users serial: 9
+- @users id: bob
+  $line_of_b
+- serial: 8
+$key_of_a
+$end" --superset-of of-two.krl --names of-a some.krl
+by_names="  ca: all
+- serial: 3
+  @users: ${line_of_a#ca: }
+- @users serial: 9
+- @users id: bob
+  @hosts: ${line_of_b#ca: }
+- @hosts serial: 8
+$key_of_a
+$end"
+checks 'what is lost, by the names of two texts' 1 "$by_names" \
+  --names of-a some.krl --superset-of of-two.krl --names of-b
+checks 'the same, a text on standard input' 1 "$by_names" \
+  --names - --names of-a --superset-of of-two.krl some.krl <of-b
+checks 'the same, the list on standard input' 1 "${by_names//some.krl/-}" \
+  --names of-b --names of-a --superset-of of-two.krl - <some.krl
+# The lines are those of krl diff.
+run diff --names of-a --names of-b of-two.krl some.krl
+judge 'krl diff prints these lines' "$(differs 'the lines' "${by_names%$'\n'*}"$'\n' "$got_output")"
+checks 'a list that passes, with names' 0 '' --names of-a --superset-of some.krl of-two.krl
+checks 'names, and no list whose names are wanted' 0 '' --names of-a some.krl
+checks 'the objects of what is lost, by names' 1 \
+  "{\"condition\":\"openssh\",\"passed\":true,\"list\":\"some.krl\"}
+{\"condition\":\"empty\",\"passed\":true,\"list\":\"some.krl\"}
+{\"condition\":\"slow\",\"passed\":true,\"list\":\"some.krl\",\"cas\":1,\"most\":4000}
+{\"change\":\"removed\",\"ca\":\"all\",\"serial\":[\"3\",\"3\"]}
+{\"change\":\"removed\",\"ca\":\"$(fingerprint "$A")\",\"name\":\"users\",\"serial\":[\"9\",\"9\"]}
+{\"change\":\"removed\",\"ca\":\"$(fingerprint "$A")\",\"name\":\"users\",\"id\":\"bob\"}
+{\"change\":\"removed\",\"ca\":\"$(fingerprint "$B")\",\"serial\":[\"8\",\"8\"]}
+{\"change\":\"removed\",\"key\":\"$(fingerprint "$A")\"}
+{\"condition\":\"lost\",\"passed\":false,\"list\":\"some.krl\",\"other\":\"of-two.krl\",\"entries\":5}
+{\"status\":\"done\",\"passed\":false}" --json --names of-a --superset-of of-two.krl some.krl
+for words in '--names - -' '--names - --names - some.krl' '--names - --superset-of - some.krl' \
+  '--names - --keep - some.krl'; do
+  # shellcheck disable=SC2086
+  expect_text "the words: check $words" 2 error check $words <of-a
+done
+# A text that is refused ends the check before a list is read.
+printf '@users: %s\n' "$(line ssh-ed25519 "$G")" >of-other
+printf '@hosts serial: 5\n' >uses-b
+while IFS='|' read -r words said <&3; do
+  for more in '' --json '--superset-of no.krl'; do
+    # shellcheck disable=SC2086
+    expect "names that are refused: check $words $more" 255 '' "krl: $said"$'\n' \
+      check $more $words some.krl <uses-b
+  done
+done 3<<'ROWS'
+--names of-a --names of-other|of-other: line 1: the name "users" has another key: of-a, line 1 [text 15 OtherKey]
+--names uses-b --names of-b|uses-b: line 1: no CA is named "hosts" above: did you mean "hosts" (of-b, line 2)? [text 16 UnknownName]
+--names of-a --names -|-: line 1: no CA is named "hosts" above [text 16 UnknownName]
+--names of-a --names missing|missing: No such file or directory [file 1 Open]
+ROWS
 
 # Lists that are not read.
 bytes "${H:0:80}00000001" >cut.krl
@@ -329,7 +419,7 @@ twice '--json' check --json --json r.krl
 twice '-f <krl>' audit -f r.krl -f empty g.pub
 twice '--files0-from <file>' audit -f r.krl --files0-from none --files0-from empty
 for it in '--newer-than last.krl' '--superset-of 7.krl' '--max-age 1s' --allow-empty --json \
-  '--keep g.pub' '--canary b.pub'; do
+  '--keep g.pub' '--canary b.pub' '--names of-a'; do
   refuses "--print-version and ${it%% *}" 'error: --print-version goes with no other option' \
     check --print-version $it r.krl
 done

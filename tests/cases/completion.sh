@@ -54,8 +54,8 @@ offers_krl() {
   judge "bash is offered $name" "$(differs words "$wanted" "$got")"
 }
 cd words || exit 1
-offers_krl 'the tasks of krl' --help,--version,audit,check,diff,help,make,show ''
-offers_krl 'the tasks that have help' audit,check,diff,make,show help ''
+offers_krl 'the tasks of krl' --help,--version,audit,check,diff,help,logins,make,show ''
+offers_krl 'the tasks that have help' audit,check,diff,logins,make,show help ''
 offers_krl 'the task that was begun' audit a
 offers_krl 'the options of an audit' \
   --all,--canary,--exclude,--files0-from,--help,--json,--version,-a,-f,-q,-t,-x audit -
@@ -63,12 +63,16 @@ offers_krl 'a file of canaries' one.pub audit -f two.krl --canary o
 offers_krl 'a list' two.krl audit -f t
 offers_krl 'files to audit' "$every" audit -f two.krl ''
 offers_krl 'a file of names' one.pub audit -f two.krl --files0-from o
+offers_krl 'the options of a search for logins' --help,--json,--version,-a,-f,-q,-t logins -
+offers_krl 'a text to search by' one.pub logins -t o
+offers_krl 'logs' "$every" logins -f two.krl ''
 offers_krl 'the options of a check' "--allow-empty,--canary,--help,--json,--keep,--max-age,--max-cas,\
---newer-than,--print-version,--superset-of,--version" check -
+--names,--newer-than,--print-version,--superset-of,--version" check -
 offers_krl 'durations' 24h,7d,90m check --max-age ''
 offers_krl 'the duration that was begun' 24h check --max-age 2
 offers_krl 'a file to be kept' one.pub check --keep o
 offers_krl 'a list to check' two.krl check --keep one.pub t
+offers_krl 'a text with the names of what is lost' one.pub check --superset-of two.krl --names o
 offers_krl 'the options of a shown list' --help,--json,--names,--no-name,--version show -
 offers_krl 'a list to show' two.krl show t
 offers_krl 'a text with names' one.pub show two.krl --names o
@@ -92,14 +96,14 @@ for shell in zsh fish; do
     continue
   fi
   [ $shell = zsh ] && files=(_krl _ssh-keygen) || files=(krl.fish ssh-keygen.fish)
-  for task in audit check show make diff; do
+  for task in audit logins check show make diff; do
     beside_help $shell "${files[0]}" "$krl" krl $task
   done
   beside_help $shell "${files[1]}" "$program" ssh-keygen
 done
 # The options that bash is offered are those of the help too.
 cd words || exit 1
-for task in audit check show make diff; do
+for task in audit logins check show make diff; do
   offers_krl "the options of the help of krl $task" "$("$krl" $task --help |
     sed -n 's/^  \( *\)\(-[A-Za-z], \)\{0,1\}\(--\{0,1\}[A-Za-z0-9-]*\).*/\3/p' | sort | paste -sd ,)" \
     $task -

@@ -637,8 +637,8 @@ misused() {
     [[ -z $3 || $got_error == *$'\n'"$3"$'\n'* ]] || printf '  it says %q\n' "$got_error"
   )"
 }
-misused 'neither a list nor a text' '-f or -t is needed' "$usage" bob
-misused 'no list, and other options' '-f or -t is needed' "$usage" -a --json --canary of_b bob
+misused 'neither a list nor a text' '-f or -t is needed' '' bob
+misused 'no list, and other options' '-f or -t is needed' '' -a --json --canary of_b bob
 misused 'nothing to audit by a text' 'a file, a directory or --files0-from is needed' "$usage" \
   -t three.txt
 once='standard input (-) can be read for one file only'

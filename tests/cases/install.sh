@@ -225,7 +225,7 @@ holds 'what the package holds' \
   ./usr/share/man/man1/krl-keygen.1.gz ./usr/share/man/man1/krl.1.gz \
   $(printf './usr/share/doc/krl-keygen/%s\n' README.md NEWS.gz changelog.gz copyright \
     docs/{DECISIONS,DECISIONS-LISTS,DESIGN,FAULTS,FORMATS,GLOSSARY,RECIPES,RUNBOOK,THEOREMS}.md \
-    docs/theorems/{audit,check,keygen,keys,libkrl,lists,system,tested,texts}.md \
+    docs/theorems/{audit,check,keygen,keys,libkrl,lists,logins,system,tested,texts}.md \
     bench/{README.md,libkrl.md,time.svg}) \
   $(cd "$top" && find examples/ansible examples/systemd -type f \
   -printf './usr/share/doc/krl-keygen/%p\n') \

@@ -25,4 +25,7 @@ judge 'the manual page of krl and the README have the options of its help' \
 cp -r "$top/demo" demo && cd demo || exit 1
 transcript 'the examples of the manual page' \
   < <(manual_blocks | awk 'BEGIN { RS = "\f\n"; ORS = "" } /^\$/')
+# So is the one of krl that reads the log of this folder.
+transcript 'the example of krl logins' \
+  < <(manual_blocks krl.1 | awk 'BEGIN { RS = "\f\n"; ORS = "" } /^\$/ && /\$ krl logins /')
 cd ..

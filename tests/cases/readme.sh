@@ -14,6 +14,8 @@ for name in user-ca alice canary; do "$openssh" -q -t ed25519 -N '' -C $name -f 
 { sed 's/^/key: /' alice.pub && echo "sha256: $(cat canary.pub)"; } >revoked.txt
 sed 's/^/key: /' alice.pub >more.txt
 mkdir -p tools home of_root && cp alice.pub home && cp user-ca.pub of_root
+printf 'Accepted publickey for alice from 192.0.2.7 port 4242 ssh2: ED25519 %s\n' \
+  "$("$openssh" -l -f alice.pub | cut -d ' ' -f 2)" >auth.log
 ln -s "$program" tools/krl-keygen && ln -s "$krl" tools/krl
 "$krl" make -q -f old.krl -z 1 revoked.txt
 judge 'each command of the table does what it says' "$(
@@ -23,7 +25,7 @@ judge 'each command of the table does what it says' "$(
     got=$(PATH=$PWD/tools:$PATH bash -c "$(room=$PWD in_room "$it")" 2>&1)
     status=$?
     case $it in
-      *' -Q '* | *audit*) wanted=1 ;;
+      *' -Q '* | *audit* | *logins*) wanted=1 ;;
       *) wanted=0 ;;
     esac
     differs "the status of $it" $wanted $status && [ $status = $wanted ] || echo "$got"
@@ -429,6 +431,63 @@ judge 'it has what it had' \
   "$(differs entries 'ca: all
 serial: 5
 key: '"$(cut -d ' ' -f 1,2 alice.pub)" "$(contents revoked.krl)")"
+
+# ---- the logins after an incident
+
+journal='journalctl -u' files='for log in'
+printf 'key: %s # OPS-7\n' "$(cut -d ' ' -f 1,2 alice.pub)" >revoked.txt
+"$krl" make -q --replace -f revoked.krl revoked.txt
+# logged FILE KEY..: a log with a login by each key.
+logged() {
+  local key
+  for key in "${@:2}"; do
+    printf 'Nov 24 09:12:03 host sshd[812]: Accepted publickey for root from 192.0.2.7 port 4242 '
+    printf 'ssh2: ED25519 %s\n' "$("$openssh" -l -f "$key.pub" | cut -d ' ' -f 2)"
+  done >"$1"
+}
+# reports NAME BEGINNING STATUS COUNTS LOCATION..: the recipe ends so, with these counts, and with a
+# revoked login at each location, whose ticket follows.
+reports() {
+  local got location wanted=
+  rm -rf logs
+  got=$(try_recipe "$2"; echo "status $?")
+  for location in "${@:5}"; do wanted+="$location: revoked"$'\n'"  revoked.txt:1: key: OPS-7"$'\n'; done
+  [ -z "$4" ] || wanted+="krl logins: $4"$'\n'
+  judge "$1" "$(differs 'what it prints' "${wanted}status $3" "$(
+    sed -n 's/: revoked: .*/: revoked/p; s/key: .* # OPS/key: OPS/p; s/ (list .*//p; /^status/p' <<<"$got"
+  )")"
+}
+printf '#!/bin/sh\n[ "$*" = "-u ssh* -o short-iso" ] || exit 99\ncat of-ssh\n' >tools/journalctl
+chmod +x tools/journalctl
+logged of-ssh canary alice
+follows 'the logins of a journal' "$journal" 1 '*'
+reports 'the revoked login of a journal' "$journal" 1 '1 file, 2 logins: 1 revoked, 0 unread' \
+  logs/journal:2
+judge 'nobody else may read the logs' "$(differs modes 700 "$(stat -c %a logs)")"
+judge 'the manual page of krl has these recipes' "$(
+  for it in "$journal" "$files"; do
+    [[ $(manual_blocks krl.1) == *"$(recipe "$it")"* ]] || echo "  it has another: $it"
+  done
+)"
+follows 'the steps end where the folder of logs is there' "$journal" 1 '*' again
+rm of-ssh
+judge 'a journal that has no such service' "$(
+  rm -r logs && got=$(try_recipe "$journal"; echo "status $?")
+  differs 'what it ends with' 'status 1' "$(tail -n 1 <<<"$got")"
+  [[ $got != *'krl logins'* ]] || echo "  $got"
+)"
+mkdir log && logged log/auth.log alice && logged log/auth.log.1 canary user-ca &&
+  logged log/auth.log.2 alice canary && gzip log/auth.log.2
+rm -rf logs
+follows 'the logins of log files' "$files" 1 '*'
+reports 'the revoked logins of log files' "$files" 1 '3 files, 5 logins: 2 revoked, 0 unread' \
+  logs/auth.log:1 logs/auth.log.2.gz:1
+logged log/auth.log canary && rm log/auth.log.2.gz
+reports 'log files without a revoked login' "$files" 0 '2 files, 3 logins: 0 revoked, 0 unread'
+logged log/auth.log.2 alice && gzip log/auth.log.2 && truncate -s -9 log/auth.log.2.gz
+reports 'a log file that is cut off' "$files" 1 ''
+rm -r log && mkdir log
+reports 'no log file' "$files" 1 ''
 ends
 judge 'the README has no recipe of its own' "$(recipes_in README.md)"
 all_followed docs/RUNBOOK.md

@@ -446,6 +446,68 @@ rm hosts
 follows 'no file of hosts' "$many" 1 '' again
 rm -r tools/ssh home of_root
 
+# ---- the logins of many hosts
+
+cp revoked.txt kept.txt && cp revoked.krl kept.krl
+printf 'key: %s # OPS-7\n' "$(cut -d ' ' -f 1,2 alice.pub)" >revoked.txt
+"$krl" make -q --replace -f revoked.krl revoked.txt
+login='Nov 24 09:12:03 host sshd[812]: Accepted publickey for root from 192.0.2.7 port 4242 ssh2: '
+login+='ED25519 '
+print_of() {
+  "$openssh" -l -f "$1.pub" | cut -d ' ' -f 2
+}
+cat >tools/ssh <<END_OF_FILE
+#!/bin/sh
+[ "\$1 \$2 \$4" = "-n -- journalctl -u 'ssh*' -o short-iso" ] || exit 99
+case \$3 in
+  -* | down*) echo "ssh: connect to host \$3 port 22: Connection refused" >&2 && exit 255 ;;
+  none) echo 'Failed to add filter for units: No data available' >&2 && exit 1 ;;
+  revoked) echo '$login$(print_of alice)' ;;
+  half) echo '$login$(print_of alice)' && exit 255 ;;
+  cut) echo 'Accepted publickey for x' ;;
+  odd) printf 'a\033[2J\302\233b\n' >&2 ;;
+  endless) exec yes "\$(printf %099999d 0)" ;;
+  *) echo '$login$(print_of canary)' ;;
+esac
+END_OF_FILE
+chmod +x tools/ssh
+# searched STATUS LINE..: the recipe ends so, and the file logins has these lines about statuses.
+searched() {
+  local got
+  try_recipe "$logins" >output
+  got=$?
+  differs status "$1" $got
+  differs statuses "$(printf '%s\n' "${@:2}")" "$(grep -E '^[^:]*: journal: status ' logins)"
+}
+logins='work='
+printf 'good\nother' >hosts
+follows 'hosts without a revoked login' "$logins" 0 ''
+judge 'each has its statuses, also where the last line has no end' "$(
+  searched 0 'good: journal: status 0, logins: status 0' 'other: journal: status 0, logins: status 0'
+  grep -q '^other: krl logins: 1 file, 1 login: 0 revoked, 0 unread ' logins || cat logins
+)"
+printf 'down|&/\nrevoked\n-oProxyCommand=touch x\nnone\nhalf\ncut\ngood\n' >hosts
+judge 'hosts that cannot be reached or have no such service, and revoked logins' "$(
+  searched 1 'down|&/: journal: status 255, logins: status 0' \
+    'revoked: journal: status 0, logins: status 1' \
+    '-oProxyCommand=touch x: journal: status 255, logins: status 0' \
+    'none: journal: status 1, logins: status 0' 'half: journal: status 255, logins: status 1' \
+    'cut: journal: status 0, logins: status 3' 'good: journal: status 0, logins: status 0'
+  grep -qxF 'down|&/: ssh: connect to host down|&/ port 22: Connection refused' logins || cat logins
+  differs tickets 2 "$(grep -c '^[a-z]*:   revoked.txt:1: key: .* # OPS-7$' logins)"
+)"
+printf 'odd\nendless\n' >hosts
+judge 'a host that moves the terminal, and one that sends without an end' "$(
+  # With a smaller limit, which needs less of the disk.
+  steps=$(recipe "$logins" | sed 's/ulimit -f 1048576/ulimit -f 1024/')
+  PATH=$PWD/tools:$PATH timeout 180 bash -c "$steps" 2>/dev/null && echo '  it ends well'
+  grep -qxF 'odd: a?[2J??b' logins || head -n 1 logins
+  grep -qx 'endless: journal: status 153, logins: status [03]' logins || tail -n 1 logins
+)"
+: >hosts
+follows 'no host to search' "$logins" 1 '' again
+rm tools/ssh hosts && mv kept.txt revoked.txt && mv kept.krl revoked.krl
+
 # ---- the line of a key
 
 "$program" -k -f revoked.krl alice.pub

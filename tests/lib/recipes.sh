@@ -61,7 +61,7 @@ begin_recipes() {
 in_room() {
   local words=(-e "s|/etc/ssh/ssh_host_ed25519_key|$room/host|g; s|/etc/ssh|$room|g")
   words+=(-e "s|/usr/local|$room/local|g")
-  words+=(-e "s|/etc/systemd/system|$room/units|g; s|/home|$PWD/home|g")
+  words+=(-e "s|/etc/systemd/system|$room/units|g; s|/home|$PWD/home|g; s|/var/log|$PWD/log|g")
   words+=(-e "s|~root/|$PWD/of_root/|g; s|/root |$PWD/of_root |g; s|find / |find $PWD/whole |")
   sed "${words[@]}" <<<"$1"
 }

@@ -14,7 +14,8 @@ transcript() {
 }
 
 timeless() {
-  sed -e 's/^# Generated at .*/# Generated at TIME/' -e '/^krl audit: / s/, [-0-9T:]*Z)$/, TIME)/'
+  sed -e 's/^# Generated at .*/# Generated at TIME/' \
+    -e '/^krl \(audit\|logins\): / s/, [-0-9T:]*Z)$/, TIME)/'
 }
 
 # Each command of the transcript, and below it what it prints now.

@@ -12,10 +12,10 @@ use crate::stop::Stop;
 use crate::summary::Summary;
 use audit_lines::Refusal;
 use byte_streams::Sink;
-use krl_audit::{Auditor, Counts, Judge, Shown};
+use krl_audit::{Auditor, Judge, Shown};
 use krl_format::Stated;
 use run_faults::{Cause, RunFault};
-use run_output::{Printer, Run};
+use run_output::Printer;
 use std::alloc::{AllocError, Global};
 use std::marker::Model;
 use std::mem;
@@ -63,17 +63,8 @@ impl<'q, 'w, W: Screen> Round<'q, 'w, W> {
     ) -> Self
         ensures { result ≡ at_start judge.entry printer.entry }
     {
-        let run = Run {
-            alloc,
-            printer,
-            line: Vec::new(alloc),
-        };
         Round {
-            auditor: Auditor {
-                judge,
-                run,
-                counts: Counts::NONE,
-            },
+            auditor: Auditor::new(alloc, judge, printer),
             files: Files::new(alloc),
             since: Since::NOTHING,
             stated,

@@ -105,8 +105,8 @@ pub fn audit_run<'a, T: Tree, N: Source + Drop, I: Source + Drop, W: Screen>(
     Audited::Ended { done, summary }
 }
 
-// The SHA-256 of the list, if the last object is printed, which has it.
-fn sha256_if(shown: Shown, bytes: &[u8]) -> Option<[u8; 32]>
+/// The SHA-256 of the list, if the last object is printed, which has it.
+pub fn sha256_if(shown: Shown, bytes: &[u8]) -> Option<[u8; 32]>
     ensures { result ≡ sha256_if (is_hashed shown) bytes.now }
 {
     match (shown.format, shown.revoked) {
@@ -115,9 +115,9 @@ fn sha256_if(shown: Shown, bytes: &[u8]) -> Option<[u8; 32]>
     }
 }
 
-// Why names of a list cannot be compared with those of certificates, if so. sshd compares a
-// certificate authority as a key and a key ID as text, and an audit compares bytes.
-fn why_incomparable(list: &ReadList, bytes: &[u8]) -> Option<Incomparable>
+/// Why names of a list cannot be compared with those of certificates, if so. sshd compares a
+/// certificate authority as a key and a key ID as text, and an audit compares bytes.
+pub fn why_incomparable(list: &ReadList, bytes: &[u8]) -> Option<Incomparable>
     ensures { HasNames list.now bytes.now result }
 {
     match &list.header {

@@ -45,7 +45,7 @@ pub fn push_summary(alloc: Global, summary: &Summary, text: &mut Vec<u8>) -> Res
     push_inputs(summary, text)?;
     push_findings(summary, text)?;
     push_names(summary, text)?;
-    push_list(alloc, summary, text)
+    push_list(alloc, summary.stated, text)
 }
 
 /// Appends the numbers of files and of keys.
@@ -86,11 +86,15 @@ fn skipped_words(one: bool) -> &'static [u8]
     }
 }
 
-// Appends the list that was queried.
-fn push_list(alloc: Global, summary: &Summary, text: &mut Vec<u8>) -> Result<(), AllocError>
-    ensures { OnOk result (text.new.items ≡ text.old.items ++ list_text summary.now.stated) }
+/// Appends the version and the date of the list that was queried, if it has them, and the line feed.
+pub fn push_list(
+    alloc: Global,
+    stated: Option<Stated>,
+    text: &mut Vec<u8>,
+) -> Result<(), AllocError>
+    ensures { OnOk result (text.new.items ≡ text.old.items ++ list_text stated) }
 {
-    match summary.stated {
+    match stated {
         None => put!(text; b" (plain list)\n"),
         Some(stated) => {
             let time = time_text(alloc, stated.generated)?;

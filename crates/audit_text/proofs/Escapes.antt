@@ -120,6 +120,9 @@ unpadded_free : (bytes : List ℕ) → HasNoEscape (unpadded bytes)
 unfolding unpadded
 unpadded_free bytes = free_append (encode_symbols (engine_symbols standard_no_pad) bytes) [] (symbols_free (engine_symbols standard_no_pad) refl bytes) refl
 
+pub printed_free : (bytes : List ℕ) → HasNoEscape (codes "SHA256:" ++ unpadded bytes)
+printed_free bytes = free_append (codes "SHA256:") (unpadded bytes) refl (unpadded_free bytes)
+
 pub fingerprint_free : (bytes : List ℕ) → HasNoEscape (fingerprint_text Sha256 bytes)
 unfolding fingerprint_text
-fingerprint_free bytes = free_append (codes "SHA256:") (unpadded (sha256 bytes)) refl (unpadded_free (sha256 bytes))
+fingerprint_free bytes = printed_free (sha256 bytes)

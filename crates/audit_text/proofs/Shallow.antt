@@ -1,11 +1,12 @@
 -- The objects of findings are nested three deep, and their numbers are counts.
 use Rattle.std.specs.List.{AllByRecursion}
 use Rattle.std.proofs.Common.{map, ℕ, ◌<◌, ◌^◌, ◌≤◌, Bool, true, false, List, [], ◌∷◌, ◌++◌, Option, None, Some, codes, nat_lt, if◌then◌else◌, arith}
-use Rattle.key_text.specs.Fingerprints.{fingerprint_text}
 use Rattle.key_text.specs.Marker.{marker_word}
-use Rattle.key_text.specs.declared.hash.Hash.TheVariants.{Sha256}
 use Rattle.key_text.specs.declared.marker.Marker.{Marker}
 use Rattle.krl_types.specs.Subject.{CertNames, Subject}
+use Rattle.krl_fingerprints.specs.declared.keys_by.KeysBy.{KeysBy}
+use Rattle.krl_fingerprints.specs.declared.keys_by.KeysBy.TheVariants.{Blob}
+use Rattle.audit_text.specs.Print.{print_by}
 use Rattle.std.specs.List.{flat_map}
 use Rattle.krl_entries.specs.Reasons.{any_reason, every_reason, has_reason}
 use Rattle.krl_entries.specs.declared.reasons.Reason.{Reason}
@@ -47,37 +48,37 @@ serial_fits serial authority = name_fits (codes "serial") (serial_field serial) 
 id_fits : (id authority : List ℕ) → Fits 1 (id_value id authority)
 id_fits id authority = name_fits (codes "id") (id_field id) authority (text_fits 0 (codes "id") id)
 
-reason_fits : (reason : Reason) (cert : Option CertNames) → ValuesFit 1 (reason_value reason cert)
-reason_fits reasons.Key cert = (by_fits (codes "key"), tt)
-reason_fits reasons.KeySha1 cert = (by_fits (codes "sha1"), tt)
-reason_fits reasons.KeySha256 cert = (by_fits (codes "sha256"), tt)
-reason_fits reason None = none reason
+reason_fits : (by : KeysBy) (reason : Reason) (cert : Option CertNames) → ValuesFit 1 (reason_value by reason cert)
+reason_fits by reasons.Key cert = (by_fits (codes "key"), tt)
+reason_fits by reasons.KeySha1 cert = (by_fits (codes "sha1"), tt)
+reason_fits by reasons.KeySha256 cert = (by_fits (codes "sha256"), tt)
+reason_fits by reason None = none reason
   where
-    none : (reason : Reason) → ValuesFit 1 (reason_value reason None)
+    none : (reason : Reason) → ValuesFit 1 (reason_value by reason None)
     none reasons.Key = (by_fits (codes "key"), tt)
     none reasons.KeySha1 = (by_fits (codes "sha1"), tt)
     none reasons.KeySha256 = (by_fits (codes "sha256"), tt)
     none other = tt
-reason_fits reasons.Authority (Some cert) = (of_fits (codes "key"), tt)
-reason_fits reasons.AuthoritySha1 (Some cert) = (of_fits (codes "sha1"), tt)
-reason_fits reasons.AuthoritySha256 (Some cert) = (of_fits (codes "sha256"), tt)
-reason_fits reasons.Serial (Some cert) = (serial_fits cert.serial (fingerprint_text Sha256 cert.authority), tt)
-reason_fits reasons.SerialOfAll (Some cert) = (serial_fits cert.serial (codes "all"), tt)
-reason_fits reasons.KeyId (Some cert) = (id_fits cert.key_id (fingerprint_text Sha256 cert.authority), tt)
-reason_fits reasons.KeyIdOfAll (Some cert) = (id_fits cert.key_id (codes "all"), tt)
+reason_fits by reasons.Authority (Some cert) = (of_fits (codes "key"), tt)
+reason_fits by reasons.AuthoritySha1 (Some cert) = (of_fits (codes "sha1"), tt)
+reason_fits by reasons.AuthoritySha256 (Some cert) = (of_fits (codes "sha256"), tt)
+reason_fits by reasons.Serial (Some cert) = (serial_fits cert.serial (print_by by cert.authority), tt)
+reason_fits by reasons.SerialOfAll (Some cert) = (serial_fits cert.serial (codes "all"), tt)
+reason_fits by reasons.KeyId (Some cert) = (id_fits cert.key_id (print_by by cert.authority), tt)
+reason_fits by reasons.KeyIdOfAll (Some cert) = (id_fits cert.key_id (codes "all"), tt)
 
 if_fits : (said : Bool) (values : List Json) → ValuesFit 1 values → ValuesFit 1 (if said then values else [])
 if_fits true values fit = fit
 if_fits false values fit = tt
 
-few_fit : (asked : Subject) (all : Reasons) (few : List Reason) → ValuesFit 1 (flat_map (λ reason. if has_reason all reason then reason_value reason asked.cert else []) few)
-few_fit asked all [] = tt
-few_fit asked all (reason ∷ few) =
-    values_fit 1 (if has_reason all reason then reason_value reason asked.cert else []) (flat_map (λ reason. if has_reason all reason then reason_value reason asked.cert else []) few)
-    (if_fits (has_reason all reason) (reason_value reason asked.cert) (reason_fits reason asked.cert)) (few_fit asked all few)
+few_fit : (by : KeysBy) (asked : Subject) (all : Reasons) (few : List Reason) → ValuesFit 1 (flat_map (λ reason. if has_reason all reason then reason_value by reason asked.cert else []) few)
+few_fit by asked all [] = tt
+few_fit by asked all (reason ∷ few) =
+    values_fit 1 (if has_reason all reason then reason_value by reason asked.cert else []) (flat_map (λ reason. if has_reason all reason then reason_value by reason asked.cert else []) few)
+    (if_fits (has_reason all reason) (reason_value by reason asked.cert) (reason_fits by reason asked.cert)) (few_fit by asked all few)
 
-reasons_fit : (asked : Subject) (all : Reasons) → Fits 2 (reasons_field asked all).value
-reasons_fit asked all = array_fits 1 (reason_values asked all) (few_fit asked all every_reason)
+reasons_fit : (by : KeysBy) (asked : Subject) (all : Reasons) → Fits 2 (reasons_field by asked all).value
+reasons_fit by asked all = array_fits 1 (reason_values by asked all) (few_fit by asked all every_reason)
 
 -- ---- fields
 
@@ -85,7 +86,7 @@ line_fits : (deep number : ℕ) (test : Bool) → number < 2 ^ 64 → FieldsFit 
 line_fits deep number true small = (number_fits deep (codes "line") number small, tt)
 line_fits deep number false small = tt
 
-place_fits : (deep : ℕ) (name : List ℕ) (number : ℕ) → number < 2 ^ 64 → FieldsFit deep (location_fields name number)
+pub place_fits : (deep : ℕ) (name : List ℕ) (number : ℕ) → number < 2 ^ 64 → FieldsFit deep (location_fields name number)
 place_fits deep name number small = (word_fits deep (codes "file") name, line_fits deep number (nat_lt 0 number) small)
 
 entry_fits : (line : Line) → line.number < 2 ^ 64 → Fits 1 (entry_value line)
@@ -97,13 +98,13 @@ entries_fit : (lines : List Line) → AllByRecursion (λ line. line.number < 2 ^
 entries_fit [] small = tt
 entries_fit (line ∷ lines) small = (entry_fits line small.0, entries_fit lines small.1)
 
-explained_fit : (asked : Subject) (explained : Option Explained) → HaveNumbers explained → FieldsFit 2 (explained_fields asked explained)
-explained_fit asked None small = tt
-explained_fit asked (Some explained) small = (array_fits 1 (map entry_value explained.lines) (entries_fit explained.lines small), (reasons_fit asked explained.unnamed, tt))
+explained_fit : (by : KeysBy) (asked : Subject) (explained : Option Explained) → HaveNumbers explained → FieldsFit 2 (explained_fields by asked explained)
+explained_fit by asked None small = tt
+explained_fit by asked (Some explained) small = (array_fits 1 (map entry_value explained.lines) (entries_fit explained.lines small), (reasons_fit by asked explained.unnamed, tt))
 
 key_fits : (blob comment : List ℕ) (asked : Subject) (all : Reasons) → FieldsFit 2 (key_fields blob comment asked all)
 key_fits blob comment asked all =
-    (word_fits 2 (codes "status") (status_word (any_reason all)), (text_fits 2 (codes "type") (type_of blob), (text_fits 2 (codes "fingerprint") (fingerprint_text Sha256 asked.plain), (text_fits 2 (codes "comment") comment, tt))))
+    (word_fits 2 (codes "status") (status_word (any_reason all)), (text_fits 2 (codes "type") (type_of blob), (text_fits 2 (codes "fingerprint") (print_by Blob asked.plain), (text_fits 2 (codes "comment") comment, tt))))
 
 marker_fits : (marker : Option Marker) → FieldsFit 2 (marker_fields marker)
 marker_fits None = tt
@@ -113,17 +114,17 @@ front_fits : (hosts : Bool) (front : List ℕ) → FieldsFit 2 (front_fields hos
 front_fits hosts [] = tt
 front_fits hosts (byte ∷ bytes) = (text_fits 2 (front_word hosts) (byte ∷ bytes), tt)
 
-names_fit : (cert : CertNames) → FieldsFit 0 (cert_names cert)
-names_fit cert = (digits_fit 0 (codes "serial") cert.serial, (text_fits 0 (codes "id") cert.key_id, (text_fits 0 (codes "authority") (fingerprint_text Sha256 cert.authority), tt)))
+names_fit : (by : KeysBy) (cert : CertNames) → FieldsFit 0 (cert_names by cert)
+names_fit by cert = (digits_fit 0 (codes "serial") cert.serial, (text_fits 0 (codes "id") cert.key_id, (text_fits 0 (codes "authority") (print_by by cert.authority), tt)))
 
-cert_fits : (cert : Option CertNames) → FieldsFit 2 (cert_fields cert)
-cert_fits None = tt
-cert_fits (Some cert) = (deeper 1 2 (cert_field cert).value (omega arith) (object_fits 0 (cert_names cert) (names_fit cert)), tt)
+cert_fits : (by : KeysBy) (cert : Option CertNames) → FieldsFit 2 (cert_fields by cert)
+cert_fits by None = tt
+cert_fits by (Some cert) = (deeper 1 2 (cert_field by cert).value (omega arith) (object_fits 0 (cert_names by cert) (names_fit by cert)), tt)
 
-list_fits : (asked : Subject) (answer : Answer) → HaveNumbers answer.explained → FieldsFit 2 (list_fields asked answer)
-list_fits asked answer small =
-    fields_fit 2 (cert_fields asked.cert) (reasons_field asked answer.reasons ∷ explained_fields asked answer.explained) (cert_fits asked.cert)
-    (reasons_fit asked answer.reasons, explained_fit asked answer.explained small)
+pub list_fits : (by : KeysBy) (asked : Subject) (answer : Answer) → HaveNumbers answer.explained → FieldsFit 2 (list_fields by asked answer)
+list_fits by asked answer small =
+    fields_fit 2 (cert_fields by asked.cert) (reasons_field by asked answer.reasons ∷ explained_fields by asked answer.explained) (cert_fits by asked.cert)
+    (reasons_fit by asked answer.reasons, explained_fit by asked answer.explained small)
 
 -- ---- objects
 
@@ -132,11 +133,11 @@ key_object_fits name number found answer small numbers =
     let location = location_fields name number in
     let key = key_fields found.blob found.comment found.asked answer.reasons in
     let line = line_fields found.marker found.hosts found.front in
-    let list = list_fields found.asked answer in
+    let list = list_fields Blob found.asked answer in
     let line_fit = fields_fit 2 (marker_fields found.marker) (front_fields found.hosts found.front) (marker_fits found.marker) (front_fits found.hosts found.front) in
     object_fits 2 (location ++ (key ++ (line ++ list)))
     (fields_fit 2 location (key ++ (line ++ list)) (place_fits 2 name number small)
-    (fields_fit 2 key (line ++ list) (key_fits found.blob found.comment found.asked answer.reasons) (fields_fit 2 line list line_fit (list_fits found.asked answer numbers))))
+    (fields_fit 2 key (line ++ list) (key_fits found.blob found.comment found.asked answer.reasons) (fields_fit 2 line list line_fit (list_fits Blob found.asked answer numbers))))
 
 pub unread_object_fits : (name : List ℕ) (number : ℕ) (why : Why) → number < 2 ^ 64 → Fits 3 (unread_object name number why)
 unread_object_fits name number why small =

@@ -4,17 +4,18 @@ use Rattle.std.specs.Prelude.{map, nat_lt, Option, Some, None, if◌then◌else�
 use Rattle.json.specs.Json.{Json}
 use Rattle.json_lines.specs.Field.{Field, array_of, digits_field, field, number_field, object_of}
 use Rattle.json_lines.specs.Field.{text_field, word_field}
-use Rattle.key_text.specs.Fingerprints.{fingerprint_text}
 use Rattle.key_text.specs.Marker.{marker_word}
-use Rattle.key_text.specs.declared.hash.Hash.TheVariants.{Sha256}
 use Rattle.key_text.specs.declared.marker.Marker.{Marker}
 use Rattle.krl_types.specs.Subject.{CertNames, Subject}
+use Rattle.krl_fingerprints.specs.declared.keys_by.KeysBy.{KeysBy}
+use Rattle.krl_fingerprints.specs.declared.keys_by.KeysBy.TheVariants.{Blob}
 use Rattle.krl_entries.specs.Reasons.{any_reason, every_reason, has_reason}
 use Rattle.krl_entries.specs.declared.reasons.Reason.{Reason}
 use Rattle.krl_entries.specs.declared.reasons.Reason.TheVariants as reasons
 use Rattle.krl_entries.specs.declared.reasons.Reasons.{Reasons}
 use Rattle.audit_lines.specs.Outcome.{Found}
 use Rattle.audit_text.specs.Answer.{Answer}
+use Rattle.audit_text.specs.Print.{print_by}
 use Rattle.audit_text.specs.Text.{type_of}
 use Rattle.audit_lines.specs.FaultText.{why_fields}
 use Rattle.audit_lines.specs.declared.why.Why.{Why}
@@ -52,25 +53,25 @@ id_value id authority =
     by_value (codes "id") (id_field id ∷ text_field (codes "authority") authority ∷ [])
 
 -- A plain key has no reason that is about a certificate.
-abbrev pub reason_value : Reason → Option CertNames → List Json
-reason_value reasons.Key _ = by_value (codes "key") [] ∷ []
-reason_value reasons.KeySha1 _ = by_value (codes "sha1") [] ∷ []
-reason_value reasons.KeySha256 _ = by_value (codes "sha256") [] ∷ []
-reason_value _ None = []
-reason_value reasons.Authority (Some cert) = of_value (codes "key") ∷ []
-reason_value reasons.AuthoritySha1 (Some cert) = of_value (codes "sha1") ∷ []
-reason_value reasons.AuthoritySha256 (Some cert) = of_value (codes "sha256") ∷ []
-reason_value reasons.Serial (Some cert) =
-    serial_value cert.serial (fingerprint_text Sha256 cert.authority) ∷ []
-reason_value reasons.SerialOfAll (Some cert) = serial_value cert.serial (codes "all") ∷ []
-reason_value reasons.KeyId (Some cert) =
-    id_value cert.key_id (fingerprint_text Sha256 cert.authority) ∷ []
-reason_value reasons.KeyIdOfAll (Some cert) = id_value cert.key_id (codes "all") ∷ []
+abbrev pub reason_value : KeysBy → Reason → Option CertNames → List Json
+reason_value by reasons.Key _ = by_value (codes "key") [] ∷ []
+reason_value by reasons.KeySha1 _ = by_value (codes "sha1") [] ∷ []
+reason_value by reasons.KeySha256 _ = by_value (codes "sha256") [] ∷ []
+reason_value by _ None = []
+reason_value by reasons.Authority (Some cert) = of_value (codes "key") ∷ []
+reason_value by reasons.AuthoritySha1 (Some cert) = of_value (codes "sha1") ∷ []
+reason_value by reasons.AuthoritySha256 (Some cert) = of_value (codes "sha256") ∷ []
+reason_value by reasons.Serial (Some cert) =
+    serial_value cert.serial (print_by by cert.authority) ∷ []
+reason_value by reasons.SerialOfAll (Some cert) = serial_value cert.serial (codes "all") ∷ []
+reason_value by reasons.KeyId (Some cert) =
+    id_value cert.key_id (print_by by cert.authority) ∷ []
+reason_value by reasons.KeyIdOfAll (Some cert) = id_value cert.key_id (codes "all") ∷ []
 
 -- all reasons, in the order in which people read them
-abbrev pub reason_values : Subject → Reasons → List Json
-reason_values asked found =
-    flat_map (λ reason. if has_reason found reason then reason_value reason asked.cert else [])
+abbrev pub reason_values : KeysBy → Subject → Reasons → List Json
+reason_values by asked found =
+    flat_map (λ reason. if has_reason found reason then reason_value by reason asked.cert else [])
     every_reason
 
 -- ---- keys
@@ -84,7 +85,7 @@ abbrev pub key_fields : (blob comment : List ℕ) → Subject → Reasons → Li
 key_fields blob comment asked all =
     word_field (codes "status") (status_word (any_reason all))
     ∷ text_field (codes "type") (type_of blob)
-    ∷ text_field (codes "fingerprint") (fingerprint_text Sha256 asked.plain)
+    ∷ text_field (codes "fingerprint") (print_by Blob asked.plain)
     ∷ text_field (codes "comment") comment ∷ []
 
 abbrev pub marker_fields : Option Marker → List Field
@@ -103,20 +104,20 @@ front_fields hosts (byte ∷ bytes) = text_field (front_word hosts) (byte ∷ by
 abbrev pub line_fields : Option Marker → Bool → List ℕ → List Field
 line_fields marker hosts front = marker_fields marker ++ front_fields hosts front
 
-abbrev pub cert_names : CertNames → List Field
-cert_names cert =
+abbrev pub cert_names : KeysBy → CertNames → List Field
+cert_names by cert =
     serial_field cert.serial ∷ id_field cert.key_id
-    ∷ text_field (codes "authority") (fingerprint_text Sha256 cert.authority) ∷ []
+    ∷ text_field (codes "authority") (print_by by cert.authority) ∷ []
 
-abbrev pub cert_field : CertNames → Field
-cert_field cert = field (codes "certificate") (object_of (cert_names cert))
+abbrev pub cert_field : KeysBy → CertNames → Field
+cert_field by cert = field (codes "certificate") (object_of (cert_names by cert))
 
-abbrev pub cert_fields : Option CertNames → List Field
-cert_fields None = []
-cert_fields (Some cert) = cert_field cert ∷ []
+abbrev pub cert_fields : KeysBy → Option CertNames → List Field
+cert_fields by None = []
+cert_fields by (Some cert) = cert_field by cert ∷ []
 
-abbrev pub reasons_field : Subject → Reasons → Field
-reasons_field asked all = field (codes "reasons") (array_of (reason_values asked all))
+abbrev pub reasons_field : KeysBy → Subject → Reasons → Field
+reasons_field by asked all = field (codes "reasons") (array_of (reason_values by asked all))
 
 -- a line of a text, with its place
 abbrev pub entry_value : Line → Json
@@ -124,24 +125,24 @@ entry_value line =
     object_of (location_fields line.file line.number ++ text_field (codes "text") line.text ∷ [])
 
 -- the lines of texts that explain, and the reasons that none gives
-abbrev pub explained_fields : Subject → Option Explained → List Field
-explained_fields asked None = []
-explained_fields asked (Some explained) =
+abbrev pub explained_fields : KeysBy → Subject → Option Explained → List Field
+explained_fields by asked None = []
+explained_fields by asked (Some explained) =
     field (codes "entries") (array_of (map entry_value explained.lines))
-    ∷ field (codes "unnamed") (array_of (reason_values asked explained.unnamed)) ∷ []
+    ∷ field (codes "unnamed") (array_of (reason_values by asked explained.unnamed)) ∷ []
 
 -- the certificate, and why it or its key is revoked
-abbrev pub list_fields : Subject → Answer → List Field
-list_fields asked answer =
-    cert_fields asked.cert
-    ++ reasons_field asked answer.reasons ∷ explained_fields asked answer.explained
+abbrev pub list_fields : KeysBy → Subject → Answer → List Field
+list_fields by asked answer =
+    cert_fields by asked.cert
+    ++ reasons_field by asked answer.reasons ∷ explained_fields by asked answer.explained
 
 -- the object of a key, revoked or not
 abbrev pub key_object : List ℕ → ℕ → Found → Answer → Json
 key_object name number found answer =
     object_of (location_fields name number
     ++ (key_fields found.blob found.comment found.asked answer.reasons
-    ++ (line_fields found.marker found.hosts found.front ++ list_fields found.asked answer)))
+    ++ (line_fields found.marker found.hosts found.front ++ list_fields Blob found.asked answer)))
 
 -- ---- lines and files that are not read
 

@@ -3,15 +3,16 @@ use Rattle.std.specs.Prelude.{ℕ, Bool, true, false, List, [], ◌∷◌, ◌++
 use Rattle.std.specs.Prelude.{flat_map, nat_lt, Option, Some, None, Result, Ok, Err, if◌then◌else◌}
 use Rattle.ssh_wire.specs.Reading.{string_at}
 use Rattle.ssh_wire.specs.declared.fault.WireFault.{WireFault}
-use Rattle.key_text.specs.Fingerprints.{fingerprint_text}
-use Rattle.key_text.specs.declared.hash.Hash.TheVariants.{Sha256}
 use Rattle.krl_types.specs.Subject.{CertNames, Subject}
+use Rattle.krl_fingerprints.specs.declared.keys_by.KeysBy.{KeysBy}
+use Rattle.krl_fingerprints.specs.declared.keys_by.KeysBy.TheVariants.{Blob}
 use Rattle.krl_entries.specs.Reasons.{any_reason, every_reason, has_reason}
 use Rattle.krl_entries.specs.declared.reasons.Reason.{Reason}
 use Rattle.krl_entries.specs.declared.reasons.Reason.TheVariants as reasons
 use Rattle.krl_entries.specs.declared.reasons.Reasons.{Reasons}
 use Rattle.audit_text.specs.Answer.{Answer}
 use Rattle.audit_text.specs.Colour.{unread_word, verdict_word}
+use Rattle.audit_text.specs.Print.{print_by}
 use Rattle.line_pieces.specs.Visible.{visible}
 use Rattle.text_index.specs.Explaining.{Explained}
 use Rattle.text_index.specs.NamingLines.{Line}
@@ -25,37 +26,37 @@ location_text name number =
 
 -- ---- reasons
 
-abbrev pub of_authority : List ℕ → List ℕ
-of_authority authority = codes " of CA " ++ fingerprint_text Sha256 authority
+abbrev pub of_authority : KeysBy → List ℕ → List ℕ
+of_authority by authority = codes " of CA " ++ print_by by authority
 
 -- the words for a reason, after a comma; a plain key has none that is about a certificate
-abbrev pub reason_words : Reason → Option CertNames → List ℕ
-reason_words reasons.Key _ = codes ", by its key"
-reason_words reasons.KeySha1 _ = codes ", by its SHA-1"
-reason_words reasons.KeySha256 _ = codes ", by its SHA-256"
-reason_words _ None = []
-reason_words reasons.Authority (Some cert) = codes ", by the key of its CA"
-reason_words reasons.AuthoritySha1 (Some cert) = codes ", by the SHA-1 of its CA"
-reason_words reasons.AuthoritySha256 (Some cert) = codes ", by the SHA-256 of its CA"
-reason_words reasons.Serial (Some cert) =
-    codes ", by serial " ++ (decimal cert.serial ++ of_authority cert.authority)
-reason_words reasons.SerialOfAll (Some cert) =
+abbrev pub reason_words : KeysBy → Reason → Option CertNames → List ℕ
+reason_words by reasons.Key _ = codes ", by its key"
+reason_words by reasons.KeySha1 _ = codes ", by its SHA-1"
+reason_words by reasons.KeySha256 _ = codes ", by its SHA-256"
+reason_words by _ None = []
+reason_words by reasons.Authority (Some cert) = codes ", by the key of its CA"
+reason_words by reasons.AuthoritySha1 (Some cert) = codes ", by the SHA-1 of its CA"
+reason_words by reasons.AuthoritySha256 (Some cert) = codes ", by the SHA-256 of its CA"
+reason_words by reasons.Serial (Some cert) =
+    codes ", by serial " ++ (decimal cert.serial ++ of_authority by cert.authority)
+reason_words by reasons.SerialOfAll (Some cert) =
     codes ", by serial " ++ (decimal cert.serial ++ codes " of all CAs")
-reason_words reasons.KeyId (Some cert) =
+reason_words by reasons.KeyId (Some cert) =
     codes ", by key ID \"" ++ (visible true cert.key_id
-    ++ (codes "\"" ++ of_authority cert.authority))
-reason_words reasons.KeyIdOfAll (Some cert) =
+    ++ (codes "\"" ++ of_authority by cert.authority))
+reason_words by reasons.KeyIdOfAll (Some cert) =
     codes ", by key ID \"" ++ (visible true cert.key_id ++ codes "\" of all CAs")
 
 -- each reason after a comma
-abbrev pub reason_parts : Subject → Reasons → List ℕ
-reason_parts asked all =
-    flat_map (λ reason. if has_reason all reason then reason_words reason asked.cert else [])
+abbrev pub reason_parts : KeysBy → Subject → Reasons → List ℕ
+reason_parts by asked all =
+    flat_map (λ reason. if has_reason all reason then reason_words by reason asked.cert else [])
     every_reason
 
 -- the reasons, with no comma before the first one
-abbrev pub reasons_text : Subject → Reasons → List ℕ
-reasons_text asked all = drop 1 (reason_parts asked all)
+abbrev pub reasons_text : KeysBy → Subject → Reasons → List ℕ
+reasons_text by asked all = drop 1 (reason_parts by asked all)
 
 -- ---- what explains
 
@@ -66,19 +67,19 @@ entry_line line =
     ++ (codes ": " ++ (visible false line.text ++ 10 ∷ [])))
 
 -- the reasons that no line gives
-abbrev pub unnamed_line : Subject → Reasons → List ℕ
-unnamed_line asked unnamed =
-    codes "  no line of the texts names it" ++ (reasons_text asked unnamed ++ 10 ∷ [])
+abbrev pub unnamed_line : KeysBy → Subject → Reasons → List ℕ
+unnamed_line by asked unnamed =
+    codes "  no line of the texts names it" ++ (reasons_text by asked unnamed ++ 10 ∷ [])
 
 -- the lines that explain, and after them the reasons that none gives, if there are any
-unfoldable pub explained_text : Subject → Explained → List ℕ
-explained_text asked explained =
+unfoldable pub explained_text : KeysBy → Subject → Explained → List ℕ
+explained_text by asked explained =
     flat_map entry_line explained.lines
-    ++ (if any_reason explained.unnamed then unnamed_line asked explained.unnamed else [])
+    ++ (if any_reason explained.unnamed then unnamed_line by asked explained.unnamed else [])
 
-abbrev pub explained_if : Subject → Option Explained → List ℕ
-explained_if asked None = []
-explained_if asked (Some explained) = explained_text asked explained
+abbrev pub explained_if : KeysBy → Subject → Option Explained → List ℕ
+explained_if by asked None = []
+explained_if by asked (Some explained) = explained_text by asked explained
 
 -- ---- lines
 
@@ -92,7 +93,7 @@ type_of blob = name_in (string_at blob)
 
 -- the type of a key, and the fingerprint of its plain key
 abbrev pub key_words : List ℕ → Subject → List ℕ
-key_words blob asked = type_of blob ++ (codes " " ++ fingerprint_text Sha256 asked.plain)
+key_words blob asked = type_of blob ++ (codes " " ++ print_by Blob asked.plain)
 
 abbrev pub comment_words : List ℕ → List ℕ
 comment_words [] = []
@@ -104,13 +105,13 @@ key_line coloured name number blob comment asked all =
     location_text name number
     ++ (verdict_word coloured (any_reason all)
     ++ (key_words blob asked
-    ++ (reasons_text asked all ++ (comment_words comment ++ 10 ∷ []))))
+    ++ (reasons_text Blob asked all ++ (comment_words comment ++ 10 ∷ []))))
 
 -- the line of a key, and the lines of texts that explain it
 abbrev pub key_text : Bool → List ℕ → ℕ → (blob comment : List ℕ) → Subject → Answer → List ℕ
 key_text coloured name number blob comment asked answer =
     key_line coloured name number blob comment asked answer.reasons
-    ++ explained_if asked answer.explained
+    ++ explained_if Blob asked answer.explained
 
 -- the line for a line or file that is not read, in colour or not
 abbrev pub unread_line : Bool → List ℕ → ℕ → Why → List ℕ

@@ -8,7 +8,7 @@ use std::alloc::AllocError;
 
 /// The word of a finding, between colons, in a colour or not.
 #[derive(Clone, Copy)]
-pub(crate) struct Mark {
+pub struct Mark {
     pub(crate) coloured: bool,
     pub(crate) colour: &'static [u8],
     pub(crate) word: &'static [u8],
@@ -28,7 +28,7 @@ impl Printed for Mark {
 }
 
 /// The word for whether a key is revoked.
-pub(crate) fn verdict_mark(coloured: bool, revoked: bool) -> Mark
+pub fn verdict_mark(coloured: bool, revoked: bool) -> Mark
     ensures { word_text result.coloured result.colour.now result.word.now
         ≡ verdict_word coloured revoked }
 {
@@ -45,7 +45,7 @@ pub(crate) fn verdict_mark(coloured: bool, revoked: bool) -> Mark
 }
 
 /// The word for a line or file that is not read.
-pub(crate) fn unread_mark(coloured: bool) -> Mark
+pub fn unread_mark(coloured: bool) -> Mark
     ensures { word_text result.coloured result.colour.now result.word.now
         ≡ unread_word coloured }
 {

@@ -9,29 +9,32 @@ ghost use Rattle.audit_text.specs.Objects.{entry_value, explained_fields};
 ghost use Rattle.audit_text.specs.Text.{entry_line, explained_text, unnamed_line};
 
 use crate::reason_values::ReasonsOf;
-use crate::reasons::{after_first, push_parts};
+use crate::reasons::ReasonWords;
 use crate::text::Location;
 use json_lines::{Array, Fields, LineWriter, Text, Values, put_fields, put_object};
 use krl_entries::Reasons;
+use krl_fingerprints::KeysBy;
 use krl_types::Subject;
-use line_pieces::{Visible, Words, put};
+use line_pieces::{Visible, put};
 use std::alloc::{AllocError, Global};
 use text_index::{Explanation, TextLine};
 
-/// Appends the lines that explain a finding about a key, and the reasons that no line gives.
+/// Appends the lines that explain a finding about a key, and the reasons that no line gives. The
+/// subject gives keys so.
 #[tactic(auto, unfolding(crate::specs::Text::explained_text))]
-pub(crate) fn push_explained(
+pub fn push_explained(
     alloc: Global,
     text: &mut Vec<u8>,
+    by: KeysBy,
     subject: &Subject<'_>,
     explanation: &Explanation<'_>,
 ) -> Result<(), AllocError>
     ensures { OnOk result (text.new.items
-        ≡ text.old.items ++ explained_text subject.now (explained_of explanation.now)) }
+        ≡ text.old.items ++ explained_text by subject.now (explained_of explanation.now)) }
 {
     push_lines(text, explanation.lines.as_slice())?;
     if explanation.unnamed.any() {
-        push_unnamed(alloc, text, subject, explanation.unnamed)?;
+        push_unnamed(alloc, text, by, subject, explanation.unnamed)?;
     }
     Ok(())
 }
@@ -63,35 +66,36 @@ fn push_line(text: &mut Vec<u8>, line: TextLine<'_>) -> Result<(), AllocError>
 fn push_unnamed(
     alloc: Global,
     text: &mut Vec<u8>,
+    by: KeysBy,
     subject: &Subject<'_>,
     unnamed: Reasons,
 ) -> Result<(), AllocError>
-    ensures { OnOk result (text.new.items ≡ text.old.items ++ unnamed_line subject.now unnamed) }
+    ensures { OnOk result (text.new.items ≡ text.old.items ++ unnamed_line by subject.now unnamed) }
 {
-    let mut parts = Vec::new(alloc);
-    push_parts(alloc, &mut parts, subject, unnamed)?;
-    put!(text; b"  no line of the texts names it", Words(after_first(&parts)), b"\n")
+    put!(text; b"  no line of the texts names it",
+        ReasonWords { alloc, by, subject, reasons: unnamed }, b"\n")
 }
 
-/// The explanation of a finding about a key, if texts are given.
+/// The explanation of a finding about a key, if texts are given. The subject gives keys so.
 #[derive(Drop)]
-pub(crate) struct ExplainedOf<'a>(
-    pub(crate) &'a Subject<'a>,
-    pub(crate) &'a Option<Explanation<'a>>,
+pub struct ExplainedOf<'a>(
+    pub KeysBy,
+    pub &'a Subject<'a>,
+    pub &'a Option<Explanation<'a>>,
 );
 
 impl<'a> Fields for ExplainedOf<'a> {
     ghost use Rattle.std.specs.Prelude.{option_map};
 
-    ghost fields = { λ of. explained_fields of.0.now (option_map explained_of of.1.now) };
+    ghost fields = { λ of. explained_fields of.0 of.1.now (option_map explained_of of.2.now) };
 
     #[tactic(auto, unfolding(json_lines::specs::Field::fields_tokens))]
     fn put_fields(&self, alloc: Global, out: &mut LineWriter) -> Result<(), AllocError> {
-        let Some(explanation) = self.1 else {
+        let Some(explanation) = self.2 else {
             return Ok(());
         };
         put_fields!(alloc, out; "entries": Array(LinesOf(explanation.lines.as_slice())),
-            "unnamed": Array(ReasonsOf(self.0, explanation.unnamed)))
+            "unnamed": Array(ReasonsOf(self.0, self.1, explanation.unnamed)))
     }
 }
 

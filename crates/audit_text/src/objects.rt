@@ -1,27 +1,29 @@
 //! Findings as JSON objects.
 
 ghost use Rattle.std.specs.Prelude.{◌≡◌, ◌∷◌, [], OnOk};
-ghost use Rattle.key_text.specs.Fingerprints.{fingerprint_text};
 ghost use Rattle.key_text.specs.Marker.{marker_word};
-ghost use Rattle.key_text.specs.declared.hash.Hash.TheVariants.{Sha256};
 ghost use Rattle.krl_entries.specs.Reasons.{any_reason};
 ghost use Rattle.json_lines.specs.Field.{json_line, text_field};
 ghost use Rattle.audit_text.specs.Objects.{cert_fields, front_fields, front_word, key_object};
 ghost use Rattle.audit_text.specs.Objects.{location_fields, marker_fields, status_word};
 ghost use Rattle.audit_text.specs.Objects.{unread_object};
+ghost use Rattle.audit_text.specs.Print.{print_by};
 ghost use Rattle.audit_text.specs.Verdict.{answer_of};
 ghost use Rattle.audit_lines.specs.Outcome.{found_as};
 
 use crate::explained::ExplainedOf;
+use crate::print::KeyPrint;
 use crate::reason_values::ReasonsOf;
 use crate::text::{Location, Verdict, type_of};
 use audit_lines::Why;
 use json_lines::{
     Array, Digits, Fields, LineWriter, Named, Object, Text, Value, fields, object, put_fields,
 };
-use key_text::{Hash, Marker, fingerprint};
+use key_text::Marker;
 use krl_entries::Reasons;
+use krl_fingerprints::KeysBy;
 use krl_types::CertNames;
+use line_pieces::put;
 use std::alloc::{AllocError, Global};
 
 /// Makes the line of a key.
@@ -39,12 +41,12 @@ pub(crate) fn write_key_object(
     object!(line; location,
         "status": status_word(verdict.reasons),
         "type": Text(type_of(found.blob.as_slice())),
-        "fingerprint": Fingerprint(subject.plain.as_slice()),
+        "fingerprint": Fingerprint(KeysBy::Blob, subject.plain.as_slice()),
         "comment": Text(found.comment),
         fields!(MarkerOf(found.marker), Front(found.hosts, found.front)),
-        CertOf(&subject.cert),
-        "reasons": Array(ReasonsOf(subject, verdict.reasons)),
-        ExplainedOf(subject, verdict.explanation))
+        CertOf(KeysBy::Blob, &subject.cert),
+        "reasons": Array(ReasonsOf(KeysBy::Blob, subject, verdict.reasons)),
+        ExplainedOf(KeysBy::Blob, subject, verdict.explanation))
 }
 
 /// Makes the line for a line or file that is not read.
@@ -71,21 +73,23 @@ impl<'a> Fields for Location<'a> {
     }
 }
 
-/// The fingerprint of a key.
+/// The fingerprint of a key that is given so.
 #[derive(Drop)]
-pub(crate) struct Fingerprint<'a>(pub(crate) &'a [u8]);
+pub struct Fingerprint<'a>(pub KeysBy, pub &'a [u8]);
 
 impl<'a> Value for Fingerprint<'a> {
-    ghost field = { λ name key. text_field name (fingerprint_text Sha256 key.0.now) };
+    ghost field = { λ name key. text_field name (print_by key.0 key.1.now) };
 
     fn put_as(&self, alloc: Global, name: &str, out: &mut LineWriter) -> Result<(), AllocError> {
-        let print = fingerprint(alloc, Hash::Sha256, self.0)?;
+        let mut print = Vec::new(alloc);
+        let Fingerprint(by, key) = *self;
+        put!(&mut print; KeyPrint { alloc, by, key })?;
         Text(&print).put_as(alloc, name, out)
     }
 }
 
-// The status of a key: revoked or not.
-fn status_word(reasons: Reasons) -> &'static str
+/// The status of a key: revoked or not.
+pub fn status_word(reasons: Reasons) -> &'static str
     ensures { result.now ≡ status_word (any_reason reasons) }
 {
     if reasons.any() { "revoked" } else { "ok" }
@@ -140,20 +144,21 @@ fn front_word(hosts: bool) -> &'static str
     if hosts { "hosts" } else { "options" }
 }
 
-// The query for a certificate: its serial number, its key ID and its authority.
+/// The query for a certificate, if it is one: its serial number, its key ID and its authority, which
+/// is given so.
 #[derive(Drop)]
-struct CertOf<'a>(&'a Option<CertNames<'a>>);
+pub struct CertOf<'a>(pub KeysBy, pub &'a Option<CertNames<'a>>);
 
 impl<'a> Fields for CertOf<'a> {
-    ghost fields = { λ cert. cert_fields cert.0.now };
+    ghost fields = { λ cert. cert_fields cert.0 cert.1.now };
 
     #[tactic(auto, unfolding(json_lines::specs::Field::fields_tokens))]
     fn put_fields(&self, alloc: Global, out: &mut LineWriter) -> Result<(), AllocError> {
-        let Some(cert) = self.0 else {
+        let Some(cert) = self.1 else {
             return Ok(());
         };
         let names = fields!("serial": Digits(u128::from(cert.serial)), "id": Text(cert.key_id),
-            "authority": Fingerprint(cert.authority));
+            "authority": Fingerprint(self.0, cert.authority));
         put_fields!(alloc, out; "certificate": Object(names))
     }
 }

@@ -7,20 +7,21 @@ ghost use Rattle.audit_text.specs.Objects.{reason_value, reason_values};
 use crate::objects::Fingerprint;
 use json_lines::{Digits, LineWriter, Text, Values, put_object};
 use krl_entries::{Reason, Reasons};
+use krl_fingerprints::KeysBy;
 use krl_types::Subject;
 use std::alloc::{AllocError, Global};
 
-/// All reasons.
+/// All reasons why a subject is revoked that gives keys so.
 #[derive(Drop)]
-pub(crate) struct ReasonsOf<'a>(pub(crate) &'a Subject<'a>, pub(crate) Reasons);
+pub struct ReasonsOf<'a>(pub KeysBy, pub &'a Subject<'a>, pub Reasons);
 
 impl<'a> Values for ReasonsOf<'a> {
-    ghost values = { λ all. reason_values all.0.now all.1 };
+    ghost values = { λ all. reason_values all.0 all.1.now all.2 };
 
     fn put_values(&self, alloc: Global, out: &mut LineWriter) -> Result<(), AllocError> {
         for reason in &Reason::ALL {
-            if self.1.has(*reason) {
-                put_reason(alloc, *reason, self.0, out)?;
+            if self.2.has(*reason) {
+                put_reason(alloc, self.0, *reason, self.1, out)?;
             }
         }
         Ok(())
@@ -31,12 +32,13 @@ impl<'a> Values for ReasonsOf<'a> {
 #[tactic(auto, unfolding(json_lines::specs::Field::values_tokens))]
 fn put_reason(
     alloc: Global,
+    by: KeysBy,
     reason: Reason,
     subject: &Subject<'_>,
     out: &mut LineWriter,
 ) -> Result<(), AllocError>
     ensures { OnOk result (out.new
-        ≡ out.old ++ values_tokens (reason_value reason subject.now.cert)) }
+        ≡ out.old ++ values_tokens (reason_value by reason subject.now.cert)) }
 {
     match (reason, &subject.cert) {
         (Reason::Key, _) => put_object!(alloc, out; "by": "key"),
@@ -52,7 +54,7 @@ fn put_reason(
         }
         (Reason::Serial, Some(cert)) => {
             put_object!(alloc, out; "by": "serial", "serial": Digits(u128::from(cert.serial)),
-                "authority": Fingerprint(cert.authority))
+                "authority": Fingerprint(by, cert.authority))
         }
         (Reason::SerialOfAll, Some(cert)) => {
             put_object!(alloc, out; "by": "serial", "serial": Digits(u128::from(cert.serial)),
@@ -60,7 +62,7 @@ fn put_reason(
         }
         (Reason::KeyId, Some(cert)) => {
             put_object!(alloc, out; "by": "id", "id": Text(cert.key_id),
-                "authority": Fingerprint(cert.authority))
+                "authority": Fingerprint(by, cert.authority))
         }
         (Reason::KeyIdOfAll, Some(cert)) => {
             put_object!(alloc, out; "by": "id", "id": Text(cert.key_id), "authority": Text(b"all"))

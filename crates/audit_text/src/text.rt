@@ -7,10 +7,11 @@ ghost use Rattle.audit_text.specs.Verdict.{answer_of};
 
 use crate::colour::{unread_mark, verdict_mark};
 use crate::explained::push_explained;
-use crate::reasons::{after_first, push_parts};
+use crate::print::KeyPrint;
+use crate::reasons::ReasonWords;
 use audit_lines::{Found, Told, Why};
-use key_text::{Hash, fingerprint};
 use krl_entries::Reasons;
+use krl_fingerprints::KeysBy;
 use krl_types::Subject;
 use line_pieces::{Printed, Visible, Words, pieces, put};
 use ssh_wire::Cursor;
@@ -97,7 +98,13 @@ pub(crate) fn write_key(
     write_key_line(alloc, coloured, location, verdict, line)?;
     match verdict.explanation {
         None => Ok(()),
-        Some(explanation) => push_explained(alloc, line, verdict.subject, explanation),
+        Some(explanation) => push_explained(
+            alloc,
+            line,
+            KeysBy::Blob,
+            verdict.subject,
+            explanation,
+        ),
     }
 }
 
@@ -113,15 +120,19 @@ fn write_key_line(
         location.entry.number verdict.now.found.now.blob verdict.now.found.now.comment.now
         verdict.now.subject.now verdict.now.reasons) }
 {
-    let subject = verdict.subject;
-    let print = fingerprint(alloc, Hash::Sha256, subject.plain.as_slice())?;
-    let mut parts = Vec::new(alloc);
-    push_parts(alloc, &mut parts, subject, verdict.reasons)?;
-    let key_type = type_of(verdict.found.blob.as_slice());
+    let by = KeysBy::Blob;
+    let Verdict {
+        found,
+        subject,
+        reasons,
+        ..
+    } = *verdict;
+    let key_type = type_of(found.blob.as_slice());
+    let key = subject.plain.as_slice();
     line.clear();
-    put!(line; location, verdict_mark(coloured, verdict.reasons.any()),
-        pieces!(Words(key_type), b" ", Words(&print)), Words(after_first(&parts)),
-        Comment(verdict.found.comment), b"\n")
+    put!(line; location, verdict_mark(coloured, reasons.any()),
+        pieces!(Words(key_type), b" ", KeyPrint { alloc, by, key }),
+        ReasonWords { alloc, by, subject, reasons }, Comment(found.comment), b"\n")
 }
 
 /// The name of the type of a key, which is its first string.

@@ -7,6 +7,7 @@ use Rattle.run_faults.specs.declared.cause.Cause.TheVariants.{NoMemory}
 use Rattle.krl_format.specs.declared.header.Header.{Header}
 use Rattle.krl_types.specs.Entry.{Entry}
 use Rattle.plain_list.specs.Any.{Names}
+use Rattle.text_entries.specs.AuthorityNames.{NamedKeys}
 use Rattle.krl_arguments.specs.declared.task.Check.{Check}
 use Rattle.any_list.specs.List.{IsGiven, IsRefused}
 use Rattle.any_list.specs.Told.{ClockRead, ListRead, Reading}
@@ -38,8 +39,9 @@ pub record IsClockless (told : List Reading) (max_age : Option ℕ) (why : Unans
   pub why_is : why ≡ unanswered.Clock
 
 -- The file of the other list was read once, and exactly what this list names and these entries do
--- not is held as lost.
-pub record IsLost (told : List Reading) (own : List Entry) (name : List ℕ) (lost : Lost) : Type 0
+-- not is held as lost, with these names of authorities.
+pub record IsLost (told : List Reading) (own : List Entry) (name : List ℕ)
+    (named : Option (Bor NamedKeys)) (lost : Lost) : Type 0
   where
     pub bytes : List ℕ
     pub header : Option Header
@@ -47,12 +49,14 @@ pub record IsLost (told : List Reading) (own : List Entry) (name : List ℕ) (lo
     pub told_is : told ≡ ListRead name (Ok bytes) ∷ []
     pub names : Names bytes header entries
     pub name_is : lost.name.now ≡ name
+    pub named_are : lost.names ≡ named
     pub are : AreLost own entries lost.held
 
-abbrev pub IsLostOf : List Reading → List Entry → Option (Bor (List ℕ)) → Option Lost → Type 0
-IsLostOf told own None lost = (told ≡ []) × (lost ≡ None)
-IsLostOf told own (Some name) None = ⊥
-IsLostOf told own (Some name) (Some lost) = IsLost told own name.now lost
+abbrev pub IsLostOf : List Reading → List Entry → Option (Bor (List ℕ))
+    → (named : Option (Bor NamedKeys)) → Option Lost → Type 0
+IsLostOf told own None named lost = (told ≡ []) × (lost ≡ None)
+IsLostOf told own (Some name) named None = ⊥
+IsLostOf told own (Some name) named (Some lost) = IsLost told own name.now named lost
 
 -- The other list is refused, or an allocation failed while it was compared.
 pub data IsUncompared (told : List Reading) (name : List ℕ) (stop : RunFault) : Type 0 where
@@ -66,8 +70,8 @@ IsLostUnknown told (Some name) stop = IsUncompared told name.now stop
 
 -- The other lists of a task were read, that of `--newer-than` first, beside the list with these
 -- bytes.
-pub record AreOthers (told : List Reading) (bytes : List ℕ) (task : Check) (other : Option Other)
-    (lost : Option Lost) : Type 0 where
+pub record AreOthers (told : List Reading) (bytes : List ℕ) (task : Check)
+    (named : Option (Bor NamedKeys)) (other : Option Other) (lost : Option Lost) : Type 0 where
   pub others : List Reading
   pub losts : List Reading
   pub told_is : told ≡ others ++ losts
@@ -75,13 +79,13 @@ pub record AreOthers (told : List Reading) (bytes : List ℕ) (task : Check) (ot
   pub header : Option Header
   pub entries : List Entry
   pub names : Names bytes header entries
-  pub is_lost : IsLostOf losts entries task.superset_of lost
+  pub is_lost : IsLostOf losts entries task.superset_of named lost
 
 -- The limits that a task sets to the list with these bytes: the clock was read after the lists.
-pub record AreLimits (told : List Reading) (bytes : List ℕ) (task : Check) (limits : Limits)
-    : Type 0 where
+pub record AreLimits (told : List Reading) (bytes : List ℕ) (task : Check)
+    (named : Option (Bor NamedKeys)) (limits : Limits) : Type 0 where
   pub lists : List Reading
   pub moments : List Reading
   pub told_is : told ≡ lists ++ moments
-  pub others : AreOthers lists bytes task limits.other limits.lost.now
+  pub others : AreOthers lists bytes task named limits.other limits.lost.now
   pub age : IsAgeLimit moments task.max_age limits.age

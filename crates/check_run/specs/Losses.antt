@@ -1,6 +1,7 @@
 -- The names that the checked list lacks.
 use Rattle.std.specs.Prelude.{◌↔◌, ℕ, not, Bool, false, List, [], ◌++◌, Option, Some, None}
 use Rattle.std.specs.Prelude.{if◌then◌else◌}
+use Rattle.std.specs.Borrow.{Bor}
 use Rattle.run_output.specs.Run.{Item}
 use Rattle.krl_types.specs.Entry.{Entry}
 use Rattle.krl_types.specs.Naming.{Name, SomeNames}
@@ -15,6 +16,7 @@ use Rattle.list_text.specs.declared.form.Form.{Form as TextForm}
 use Rattle.list_text.specs.declared.form.Form.TheVariants.{Change, JsonChange}
 use Rattle.list_text.specs.declared.side.Side.TheVariants.{Removed}
 use Rattle.show_run.specs.Showing.{fact_items}
+use Rattle.text_entries.specs.AuthorityNames.{NamedKeys}
 use Rattle.check_run.specs.declared.lists.Lost.{Lost}
 
 -- Exactly the names of some entries that others do not name are held, in order.
@@ -24,12 +26,12 @@ pub record AreLost (own others : List Entry) (lost : Revocations) : Type 0 where
       → HoldsName lost name ↔ (SomeNames others name × (SomeNames own name → ⊥))
 
 -- the lines of what is lost, and how many entries they are
-abbrev pub lost_form : Format → TextForm
-lost_form form = if is_json form then JsonChange Removed None else Change Removed None
+abbrev pub lost_form : Format → Option (Bor NamedKeys) → TextForm
+lost_form form names = if is_json form then JsonChange Removed names else Change Removed names
 
 abbrev pub lost_items : Format → List ℕ → Lost → List Item
 lost_items form name lost =
-    fact_items (lost_form form) (facts_of lost.held)
+    fact_items (lost_form form lost.names) (facts_of lost.held)
     ++ condition_items form name
     (LostEntries lost.name (counted_all nothing_counted (facts_of lost.held)).entries)
 

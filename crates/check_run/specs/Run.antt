@@ -1,4 +1,5 @@
 -- A whole check: what it prints, and how it ends.
+use Rattle.std.specs.Borrow.{Bor}
 use Rattle.std.specs.Prelude.{◌≡◌, ◌↔◌, ℕ, ◌||◌, Bool, true, false, List, [], ◌∷◌, ◌++◌, Option}
 use Rattle.std.specs.Prelude.{Some, None, Result, Ok, Err, OnOk, if◌then◌else◌, length}
 use Rattle.run_faults.specs.RunFault.{RunFault}
@@ -23,6 +24,7 @@ use Rattle.list_conditions.specs.declared.condition.Condition.TheVariants.{Slow}
 use Rattle.plain_list.specs.Any.{Names}
 use Rattle.any_list.specs.List.{IsRefused, stated_by}
 use Rattle.any_list.specs.Told.{ListRead, Reading}
+use Rattle.text_entries.specs.AuthorityNames.{NamedKeys}
 use Rattle.check_run.specs.Files.{AreRead, Named, Read, files_of, reads_fail, reads_items}
 use Rattle.check_run.specs.Files.{some_unread}
 use Rattle.check_run.specs.Limits.{AreLimits, AreOthers, IsClockless, IsLostUnknown}
@@ -119,45 +121,48 @@ pub record EndsRefused (Is : RunFault → Type 0) (before after : Option (List �
 -- is, after the first one was read; or the clock cannot be read, after both were; and nothing was
 -- printed.
 pub data EndsBeside (told : List Reading) (name bytes : List ℕ) (task : Check)
-    (before after : Option (List ℕ)) (failed : Bool) (result : Result Done Unanswered) : Type 0
+    (named : Option (Bor NamedKeys)) (before after : Option (List ℕ)) (failed : Bool)
+    (result : Result Done Unanswered) : Type 0
   where
     beside : (limits : Limits) → (first files : List Reading) → told ≡ first ++ files
-        → AreLimits first bytes task limits → (done : Done) → result ≡ Ok done
+        → AreLimits first bytes task named limits → (done : Done) → result ≡ Ok done
         → EndsChecked files name bytes task limits before after failed done.status done.fault
-        → EndsBeside told name bytes task before after failed result
+        → EndsBeside told name bytes task named before after failed result
     other_refused :
         EndsRefused (IsOtherRefused told task.newer_than) before after failed result
-        → EndsBeside told name bytes task before after failed result
+        → EndsBeside told name bytes task named before after failed result
     lost_unknown : (other : Option Other) → (first last : List Reading) → told ≡ first ++ last
         → IsOtherOf first task.newer_than other
         → EndsRefused (IsLostUnknown last task.superset_of) before after failed result
-        → EndsBeside told name bytes task before after failed result
+        → EndsBeside told name bytes task named before after failed result
     clockless : (other : Option Other) → (lost : Option Lost) → (first last : List Reading)
-        → told ≡ first ++ last → AreOthers first bytes task other lost
+        → told ≡ first ++ last → AreOthers first bytes task named other lost
         → (why : Unanswered) → IsClockless last task.max_age why
         → result ≡ Err why → after ≡ before → failed ≡ false
-        → EndsBeside told name bytes task before after failed result
+        → EndsBeside told name bytes task named before after failed result
 
 -- The version of a list that was read is printed, and nothing else is read; or the list is checked.
 abbrev pub EndsIf : (only_version : Bool) → List Reading → (name bytes : List ℕ) → Option Header
-    → Check → (before after : Option (List ℕ)) → (failed : Bool) → Result Done Unanswered
-    → Type 0
-EndsIf true told name bytes header task before after failed result =
+    → Check → Option (Bor NamedKeys) → (before after : Option (List ℕ)) → (failed : Bool)
+    → Result Done Unanswered → Type 0
+EndsIf true told name bytes header task named before after failed result =
     (told ≡ []) × PrintsVersion name (stated_by header) before after failed result
-EndsIf false told name bytes header task before after failed result =
-    EndsBeside told name bytes task before after failed result
+EndsIf false told name bytes header task named before after failed result =
+    EndsBeside told name bytes task named before after failed result
 
--- The list of the task was read first, and the task was done with it; or the list is refused, and
--- nothing else was read.
-pub data EndsCheckRun (told : List Reading) (task : Check) (before after : Option (List ℕ))
-    (failed : Bool) (result : Result Done Unanswered) : Type 0 where
+-- The list of the task was read first, and the task was done with it, by these names of
+-- authorities; or the list is refused, and nothing else was read.
+pub data EndsCheckRun (told : List Reading) (task : Check) (named : Option (Bor NamedKeys))
+    (before after : Option (List ℕ)) (failed : Bool) (result : Result Done Unanswered)
+    : Type 0 where
   read : (bytes : List ℕ) → (later : List Reading)
       → told ≡ ListRead task.list.now (Ok bytes) ∷ later
       → (header : Option Header) → (entries : List Entry) → Names bytes header entries
-      → EndsIf task.print_version later task.list.now bytes header task before after failed result
-      → EndsCheckRun told task before after failed result
+      → EndsIf task.print_version later task.list.now bytes header task named before after failed
+      result
+      → EndsCheckRun told task named before after failed result
   refused : EndsRefused (IsRefused told task.list.now) before after failed result
-      → EndsCheckRun told task before after failed result
+      → EndsCheckRun told task named before after failed result
 
 -- ---- the parts of a run
 

@@ -19,19 +19,21 @@ use list_conditions::laws::{authorities_are_counted, nobody_is_named};
 use run_faults::RunFault;
 use run_output::{Done, Printer, Run};
 use std::alloc::Global;
+use text_entries::NamesByKey;
 
-/// A list that was read, its limits, and the task.
+/// A list that was read, the task, and the names of authorities, if some are given.
 #[derive(Clone, Copy)]
-pub(crate) struct Job<'a, 'g, 'l> {
+pub(crate) struct Job<'a, 'g> {
     pub(crate) given: &'g Given<'a>,
-    pub(crate) limits: Limits<'a, 'l>,
     pub(crate) task: &'g Check<'a>,
+    pub(crate) names: Option<&'g NamesByKey>,
 }
 
 /// Checks a list that was read, by its limits.
 pub(crate) fn check_by<'a, H: Host, W: Sink>(
     alloc: Global,
-    job: Job<'a, '_, '_>,
+    job: Job<'a, '_>,
+    limits: Limits<'a, '_, '_>,
     host: &mut H,
     out: &mut W,
 ) -> Done<'a>
@@ -39,14 +41,14 @@ pub(crate) fn check_by<'a, H: Host, W: Sink>(
     requires working { W.has_failed out.old ≡ false }
     ensures { Tells (H.Lists.told host.old) (H.Lists.told host.new)
         (λ told. EndsChecked told job.entry.given.now.list.name.now
-        job.entry.given.now.bytes job.entry.task.now job.entry.limits
+        job.entry.given.now.bytes job.entry.task.now limits.entry
         (W.taken out.old) (W.taken out.new) (W.has_failed out.new) result.status result.fault) }
 {
     let mut buffer = Vec::new(alloc);
     let printer = Printer::new(&mut buffer, out);
     let form = form_of(job.task);
     let mut checker = Checker::new(alloc, &job.given.list.revocations, form, printer);
-    let stop = check_all(&mut checker, job, host);
+    let stop = check_all(&mut checker, job, limits, host);
     let done = checker.finish(stop.err());
     let Checker { auditor, .. } = checker;
     let Auditor { run, .. } = auditor;
@@ -73,7 +75,8 @@ fn form_of(task: &Check) -> Format
 // Checks each condition.
 fn check_all<'a, H: Host, W: Sink>(
     checker: &mut Checker<'_, '_, W>,
-    job: Job<'a, '_, '_>,
+    job: Job<'a, '_>,
+    limits: Limits<'a, '_, '_>,
     host: &mut H,
 ) -> Result<(), RunFault<'a>>
     requires read { IsRead job.given.now }
@@ -83,7 +86,7 @@ fn check_all<'a, H: Host, W: Sink>(
     requires unread { checker.old.unread ≡ false }
     ensures all { Tells (H.Lists.told host.old) (H.Lists.told host.new)
         (λ told. ChecksAll told job.entry.given.now.list.name.now
-        job.entry.given.now.bytes job.entry.task.now job.entry.limits
+        job.entry.given.now.bytes job.entry.task.now limits.entry
         result checker.old.auditor.run.printer checker.new.auditor.run.printer
         checker.new.refused checker.new.unread) }
     ensures writer { checker.new.auditor.run.printer.writer
@@ -91,7 +94,7 @@ fn check_all<'a, H: Host, W: Sink>(
 {
     nobody_is_named();
     authorities_are_counted();
-    check_list(checker, job)?;
+    check_list(checker, job, limits)?;
     check_files(checker, host, job.task)?;
     let given = job.given;
     checker.say_end(given.list.name)
@@ -100,13 +103,14 @@ fn check_all<'a, H: Host, W: Sink>(
 // Checks each condition for the list itself.
 fn check_list<'a, W: Sink>(
     checker: &mut Checker<'_, '_, W>,
-    job: Job<'a, '_, '_>,
+    job: Job<'a, '_>,
+    limits: Limits<'a, '_, '_>,
 ) -> Result<(), RunFault<'a>>
     requires { IsRead job.given.now }
     ensures checks { ChecksList checker.old.auditor.judge.shown.format
         job.entry.given.now.list.name.now job.entry.given.now.bytes
         (stated_by job.entry.given.now.list.header) checker.old.auditor.judge.list.now
-        job.entry.task.now job.entry.limits result checker.old.auditor.run.printer
+        job.entry.task.now limits.entry result checker.old.auditor.run.printer
         checker.new.auditor.run.printer checker.old.refused checker.new.refused }
     ensures unread { checker.new.unread ≡ checker.old.unread }
     ensures judge { checker.new.auditor.judge ≡ checker.old.auditor.judge }
@@ -117,5 +121,5 @@ fn check_list<'a, W: Sink>(
     check_format(checker, given)?;
     check_empty(checker, name, job.task.allow_empty)?;
     check_slow(checker, name, job.task.max_cas)?;
-    check_limits(checker, name, stated, job.limits)
+    check_limits(checker, name, stated, limits)
 }

@@ -22,6 +22,7 @@ use list_text::{Counts, Form as TextForm, Side};
 use plain_list::first_dsa_line;
 use run_faults::{Cause, RunFault};
 use show_run::show_held;
+use text_entries::NamesByKey;
 
 // How many certificate authorities a list may have by itself. With as many, a login takes sshd a
 // second or two.
@@ -106,7 +107,7 @@ pub(crate) fn check_limits<'a, W: Sink>(
     checker: &mut Checker<'_, '_, W>,
     name: &'a str,
     stated: Option<Stated>,
-    limits: Limits<'a, '_>,
+    limits: Limits<'a, '_, '_>,
 ) -> Result<(), RunFault<'a>>
     ensures { ChecksBy (λ form. limits_items form name.now stated limits.entry)
         (limits_fail stated limits.entry) result checker.old checker.new }
@@ -159,7 +160,7 @@ fn check_age<'a, W: Sink>(
 fn check_lost<'a, W: Sink>(
     checker: &mut Checker<'_, '_, W>,
     name: &'a str,
-    lost: &Option<Lost<'a>>,
+    lost: &Option<Lost<'a, '_>>,
 ) -> Result<(), RunFault<'a>>
     ensures { ChecksBy (λ form. losses_items form name.now lost.now) (losses_fail lost.now)
         result checker.old checker.new }
@@ -177,23 +178,23 @@ fn check_lost<'a, W: Sink>(
 fn say_lost<'a, W: Sink>(
     checker: &mut Checker<'_, '_, W>,
     name: &'a str,
-    lost: &Lost<'a>,
+    lost: &Lost<'a, '_>,
 ) -> Result<(), RunFault<'a>>
     ensures { ChecksBy (λ form. lost_items form name.now lost.now) true result checker.old
         checker.new }
 {
-    let form = lost_form(checker.auditor.judge.shown.format);
+    let form = lost_form(checker.auditor.judge.shown.format, lost.names);
     let mut counts = Counts::NONE;
     show_held(&mut checker.auditor.run, &mut counts, form, &lost.held)?;
     checker.check(name, Condition::Lost(lost.name, counts.entries))
 }
 
 // The form of the lines of what is lost.
-fn lost_form(form: Format) -> TextForm<'static>
-    ensures { result ≡ lost_form form }
+fn lost_form(form: Format, names: Option<&NamesByKey>) -> TextForm<'_>
+    ensures { result ≡ lost_form form names.entry }
 {
     match form {
-        Format::Text | Format::Colour => TextForm::Change(Side::Removed, None),
-        Format::Json => TextForm::JsonChange(Side::Removed, None),
+        Format::Text | Format::Colour => TextForm::Change(Side::Removed, names),
+        Format::Json => TextForm::JsonChange(Side::Removed, names),
     }
 }

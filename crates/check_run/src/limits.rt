@@ -19,10 +19,10 @@ pub(crate) struct AgeLimit {
 /// The list whose version must not be higher, the largest age, and what the list lacks of another
 /// one, each if there is such a limit.
 #[derive(Clone, Copy)]
-pub(crate) struct Limits<'a, 'l> {
+pub(crate) struct Limits<'a, 'l, 'n> {
     pub(crate) other: Option<Other<'a>>,
     pub(crate) age: Option<AgeLimit>,
-    pub(crate) lost: &'l Option<Lost<'a>>,
+    pub(crate) lost: &'l Option<Lost<'a, 'n>>,
 }
 
 /// Why nothing is said about a list that was read.

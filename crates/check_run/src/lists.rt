@@ -14,6 +14,7 @@ use list_diff::difference;
 use run_faults::{Cause, RunFault};
 use span_sets::Held;
 use std::alloc::Global;
+use text_entries::NamesByKey;
 
 /// The other list: its name, and its version unless it is a plain list.
 #[derive(Clone, Copy)]
@@ -22,11 +23,13 @@ pub(crate) struct Other<'a> {
     pub(crate) version: Option<u64>,
 }
 
-/// The revocations of another list that the checked one lacks, and the name of the other one.
+/// The revocations of another list that the checked one lacks, the name of the other one, and the
+/// names of authorities by which they are printed, if some are given.
 #[derive(Drop)]
-pub(crate) struct Lost<'a> {
+pub(crate) struct Lost<'a, 'n> {
     pub(crate) name: &'a str,
     pub(crate) held: Revocations<Held>,
+    pub(crate) names: Option<&'n NamesByKey>,
 }
 
 /// Reads the list whose version the checked one must not be below, if there is one, or says why it
@@ -55,15 +58,16 @@ pub(crate) fn read_other<'a, L: Lists>(
 
 /// Reads the list whose names the checked one must have, if there is one, and finds those that it
 /// lacks, or says why the other list is refused.
-pub(crate) fn read_lost<'a, L: Lists>(
+pub(crate) fn read_lost<'a, 'n, L: Lists>(
     alloc: Global,
     lists: &mut L,
     name: Option<&'a str>,
     held: &Revocations<Held>,
-) -> Result<Option<Lost<'a>>, RunFault<'a>>
+    names: Option<&'n NamesByKey>,
+) -> Result<Option<Lost<'a, 'n>>, RunFault<'a>>
     ensures found { IfOk result (λ lost. Tells (L.told lists.old) (L.told lists.new)
         (λ told. (own : List Entry) → Means held.now own
-        → IsLostOf told own name.entry lost)) }
+        → IsLostOf told own name.entry names.entry lost)) }
     ensures fault { IfErr result (λ stop. Tells (L.told lists.old) (L.told lists.new)
         (λ told. IsLostUnknown told name.entry stop)) }
 {
@@ -75,7 +79,7 @@ pub(crate) fn read_lost<'a, L: Lists>(
         Err(fault) => return Err(fault),
     };
     match difference(alloc, held, &other.revocations) {
-        Ok(held) => Ok(Some(Lost { name, held })),
+        Ok(held) => Ok(Some(Lost { name, held, names })),
         Err(_) => Err(RunFault::whole(name, Cause::NoMemory)),
     }
 }

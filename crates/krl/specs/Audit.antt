@@ -2,7 +2,9 @@
 use Rattle.std.specs.Prelude.{◌≡◌, ℕ, Bool, List, Option, option_map}
 use Rattle.std.specs.Borrow.{Bor}
 use Rattle.krl_arguments.specs.declared.task.Audit.{Audit}
+use Rattle.krl_arguments.specs.Task.{audit_by, list_name}
 use Rattle.krl_entries.specs.Revocations.{Revocations}
+use Rattle.krl_fingerprints.specs.declared.keys_by.KeysBy.TheVariants.{Blob}
 use Rattle.audit_run.specs.Fact.{Fact}
 use Rattle.audit_run.specs.Order.{IsOrder}
 use Rattle.audit_run.specs.Run.{EndsAuditRun, Readers}
@@ -59,6 +61,6 @@ pub data IsAuditedBy (FileFailed InputFailed : Type 0) (task : Audit) (bytes : L
 pub data IsAudited (FileFailed InputFailed : Type 0) (task : Audit) (status : ℕ) : Type 0 where
   refused : status ≡ 255 → IsAudited FileFailed InputFailed task status
   audited : (bytes : List ℕ) (texts : Option (Bor TextIndex))
-      → AreAsked task bytes (index_now texts)
+      → AreAsked Blob task.texts.items task.list (list_name (audit_by task)) bytes (index_now texts)
       → IsAuditedBy FileFailed InputFailed task bytes texts status
       → IsAudited FileFailed InputFailed task status

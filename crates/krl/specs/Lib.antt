@@ -1,4 +1,5 @@
 pub mod Loading
+pub mod Logins
 pub mod Ending
 pub mod Disk
 pub mod Audit

@@ -4,10 +4,12 @@ use Rattle.krl_arguments.specs.Command.{IsCommand}
 use Rattle.krl_arguments.specs.declared.task.Audit.{Audit}
 use Rattle.krl_arguments.specs.declared.task.Check.{Check}
 use Rattle.krl_arguments.specs.declared.task.Diff.{Diff}
+use Rattle.krl_arguments.specs.declared.task.Logins.{Logins}
 use Rattle.krl_arguments.specs.declared.task.Make.{Make}
 use Rattle.krl_arguments.specs.declared.task.Show.{Show}
 use Rattle.krl_arguments.specs.declared.task.Task.TheVariants as tasks
 use Rattle.krl.specs.Audit.{IsAudited}
+use Rattle.krl.specs.Logins.{IsSearched}
 use Rattle.krl.specs.Make.{IsMade}
 use Rattle.krl.specs.Runs.{IsChecked, IsCompared, IsShown}
 use Rattle.option_table.specs.Fault.{command_fault_status}
@@ -18,6 +20,8 @@ pub data EndsKrl (FileFailed InputFailed : Type 0) (words : List (List ℕ)) (st
     : Type 0 where
   audited : (task : Audit) → IsCommand words (Ok (tasks.Audit task))
       → IsAudited FileFailed InputFailed task status → EndsKrl FileFailed InputFailed words status
+  searched : (task : Logins) → IsCommand words (Ok (tasks.Logins task))
+      → IsSearched InputFailed task status → EndsKrl FileFailed InputFailed words status
   checked : (task : Check) → IsCommand words (Ok (tasks.Check task)) → IsChecked task status
       → EndsKrl FileFailed InputFailed words status
   shown : (task : Show) → IsCommand words (Ok (tasks.Show task)) → IsShown task status

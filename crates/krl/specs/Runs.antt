@@ -62,12 +62,12 @@ abbrev pub checked_status : Result Done Unanswered → ℕ
 checked_status (Ok done) = done.status
 checked_status (Err why) = 255
 
--- The list of the task was checked so, with this status.
-pub record IsChecked (task : Check) (status : ℕ) : Type 0 where
-  pub told : List Reading
-  pub before : Option (List ℕ)
-  pub after : Option (List ℕ)
-  pub failed : Bool
-  pub result : Result Done Unanswered
-  pub ends : EndsCheckRun told task before after failed result
-  pub status_is : status ≡ checked_status result
+-- The list of the task was checked so, with this status, by the names that its texts give; or a
+-- text is refused.
+pub data IsChecked (task : Check) (status : ℕ) : Type 0 where
+  unnamed : status ≡ 255 → IsChecked task status
+  checked : (names : Option (Bor NamedKeys)) → AreNamesOf task.names.items (names_now names)
+      → (told : List Reading) → (before after : Option (List ℕ)) → (failed : Bool)
+      → (result : Result Done Unanswered)
+      → EndsCheckRun told task names before after failed result → status ≡ checked_status result
+      → IsChecked task status

@@ -2,9 +2,8 @@
 use Rattle.std.specs.Prelude.{◌≡◌, ℕ, false, List, [], ◌∷◌, map, Option, Some, None}
 use Rattle.std.specs.Borrow.{Bor}
 use Rattle.krl.specs.Names.{name_of, now_of}
-use Rattle.krl_arguments.specs.Task.{audit_by, list_name}
-use Rattle.krl_arguments.specs.declared.task.Audit.{Audit}
 use Rattle.krl_entries.specs.Revocations.{Revocations}
+use Rattle.krl_fingerprints.specs.declared.keys_by.KeysBy.{KeysBy}
 use Rattle.text_index.specs.declared.indexing.TextIndex.{TextIndex}
 use Rattle.text_run.specs.Indexed.{IndexesTexts}
 use Rattle.text_run.specs.Making.{Text, day_at}
@@ -12,12 +11,13 @@ use Rattle.text_run.specs.Over.{MakesOver}
 use Rattle.text_run.specs.declared.inputs.Inputs.{Inputs}
 use Rattle.text_run.specs.declared.inputs.Over.TheVariants.{Nothing}
 
--- The texts are indexed, with what their lines say on the day of this date. Without a text there is
--- no index.
-abbrev pub AreIndexed : (date : ℕ) → List Text → Option TextIndex → Type 0
-AreIndexed date [] index = index ≡ None
-AreIndexed date (text ∷ texts) None = ⊥
-AreIndexed date (text ∷ texts) (Some index) = IndexesTexts (day_at date) (text ∷ texts) index
+-- The texts are indexed, with what their lines say on the day of this date, for queries that give
+-- keys so. Without a text there is no index.
+abbrev pub AreIndexed : KeysBy → (date : ℕ) → List Text → Option TextIndex → Type 0
+AreIndexed by date [] index = index ≡ None
+AreIndexed by date (text ∷ texts) None = ⊥
+AreIndexed by date (text ∷ texts) (Some index) =
+    IndexesTexts by (day_at date) (text ∷ texts) index
 
 -- These inputs ask for a new list of the texts.
 pub record AreInputs (name : List ℕ) (date : ℕ) (texts : List Text) (inputs : Inputs)
@@ -45,11 +45,12 @@ abbrev pub IsListBy : Option (Bor (List ℕ)) → (name : List ℕ) → (date : 
 IsListBy None name date texts bytes = IsListOf name date texts bytes
 IsListBy (Some list) name date texts bytes = Unit {0}
 
--- Texts with the names that the task gives were read. They are indexed, and make the list if no
--- other is given.
-pub record AreAsked (task : Audit) (bytes : List ℕ) (index : Option TextIndex) : Type 0 where
+-- Texts with these names were read. They are indexed for queries that give keys so, and make the list
+-- if no other is given.
+pub record AreAsked (by : KeysBy) (names : List (Bor (List ℕ))) (given : Option (Bor (List ℕ)))
+    (list : List ℕ) (bytes : List ℕ) (index : Option TextIndex) : Type 0 where
   pub date : ℕ
   pub texts : List Text
-  pub named : map name_of texts ≡ map now_of task.texts.items
-  pub indexed : AreIndexed date texts index
-  pub list : IsListBy task.list (list_name (audit_by task)) date texts bytes
+  pub named : map name_of texts ≡ map now_of names
+  pub indexed : AreIndexed by date texts index
+  pub made : IsListBy given list date texts bytes

@@ -18,6 +18,7 @@ use audit_run::{Order, Sources, audit_run};
 use byte_streams::{FromRead, Source};
 use krl_arguments::Audit;
 use krl_entries::Revocations;
+use krl_fingerprints::KeysBy;
 use program_edge::stop;
 use run_faults::{Cause, FileFault, RunFault};
 use span_sets::Held;
@@ -54,7 +55,7 @@ pub fn audit(rt: &HostRuntime, task: &Audit) -> u8
         Ok(date) => date,
         Err(status) => return status,
     };
-    let index = match index_of(rt, date, texts.as_slice()) {
+    let index = match index_of(rt, KeysBy::Blob, date, texts.as_slice()) {
         Ok(index) => index,
         Err(status) => return status,
     };
@@ -65,8 +66,8 @@ pub fn audit(rt: &HostRuntime, task: &Audit) -> u8
     audit_list(rt, task, list, index.as_ref())
 }
 
-// The bytes of the given list, or of the one that the texts make; otherwise the exit status.
-fn asked_list<'a>(
+/// The bytes of the given list, or of the one that the texts make; otherwise the exit status.
+pub fn asked_list<'a>(
     rt: &HostRuntime,
     given: Option<&str>,
     name: &'a str,
@@ -150,7 +151,7 @@ fn audit_by<'a, N: Source + Drop, I: Source + Drop>(
         texts,
     } = asked;
     let order = Order::of(task, canaries, texts, terminal(rt));
-    let tree = &Disk::new(rt, task);
+    let tree = &Disk::new(rt, task.exclude.as_slice(), task.one_file_system);
     let given = Sources { tree, names, input };
     let mut screen = Screen::new(rt);
     let audited = audit_run(rt.alloc(), &order, list, given, &mut screen);

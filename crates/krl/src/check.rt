@@ -5,6 +5,7 @@ ghost use Rattle.krl.specs.Runs.{IsChecked};
 use crate::Krl;
 use crate::ending::fail_in_words;
 use crate::loading::{INPUT, ListFiles, open, read};
+use crate::names::names_of;
 use audit_lines::Refusal;
 use byte_streams::{FromRead, ToWrite};
 use check_run::{Host, check_run};
@@ -17,8 +18,13 @@ use std::alloc::AllocError;
 pub fn check(rt: &HostRuntime, task: &Check) -> u8
     ensures { IsChecked task.now result }
 {
+    let names = match names_of(rt, task.names.as_slice()) {
+        Ok(names) => names,
+        Err(status) => return status,
+    };
+    let mut files = ListFiles { rt };
     let mut out = ToWrite::new(rt.stdout());
-    match check_run(rt.alloc(), task, &mut ListFiles { rt }, &mut out) {
+    match check_run(rt.alloc(), task, names.as_ref(), &mut files, &mut out) {
         Ok(done) => end(rt, &Krl, &done),
         Err(why) => fail_in_words(rt, task.list, why.words()),
     }

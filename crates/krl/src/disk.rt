@@ -8,7 +8,6 @@ use crate::loading::{open, refusal_of};
 use audit_lines::Refusal;
 use audit_run::{FileKind, Found, Identity, Opened, Tree, is_sought, path_in};
 use byte_streams::{Failed, FromRead, Source};
-use krl_arguments::Audit;
 use std::alloc::AllocError;
 use std::cell::Cell;
 use std::fs::{self, File, Files, Metadata};
@@ -105,13 +104,14 @@ pub struct Disk<'a> {
 }
 
 impl<'a> Disk<'a> {
-    /// The file system as the task goes through it, in which no opening lasted yet.
-    pub fn new(rt: &'a HostRuntime, task: &'a Audit<'a>) -> Self {
+    /// The file system, in which no opening lasted yet. Names of directories are skipped if they are
+    /// among these, and other file systems if `is_bound` is true.
+    pub fn new(rt: &'a HostRuntime, exclude: &'a [&'a str], is_bound: bool) -> Self {
         let root = device_of(rt, "/");
         Disk {
             rt,
-            exclude: task.exclude.as_slice(),
-            is_bound: task.one_file_system,
+            exclude,
+            is_bound,
             kernel: [
                 mounted_at(rt, "/proc", root),
                 mounted_at(rt, "/sys", root),

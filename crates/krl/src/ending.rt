@@ -4,6 +4,7 @@ ghost use Rattle.std.specs.Prelude.{◌≡◌, IfOk, false};
 ghost use Rattle.run_faults.specs.RunFault.{line_part};
 ghost use Rattle.run_faults.specs.Causes.{cause_words};
 ghost use Rattle.krl.specs.Ending.{audit_status, fault_line, is_looked_at, words_line};
+ghost use Rattle.krl.specs.Logins.{logins_status};
 
 use crate::Krl;
 use crate::loading::{bytes_of, why_unopened};
@@ -12,6 +13,7 @@ use audit_run::{Audited, Summary, push_summary};
 use krl_core::KrlFault;
 use krl_openssh::Incomparable;
 use line_pieces::{Printed, Visible, Words, put};
+use login_run::{LoginSummary, LoginsEnd, push_login_summary, push_sha1s};
 use program_edge::{end, print_line, stop};
 use run_faults::{Cause, FileFault, KeyCause, RunFault, cause_words};
 use run_output::FAILED;
@@ -67,6 +69,23 @@ pub fn end_audit(rt: &HostRuntime, list: &str, audited: Audited) -> u8
     }
 }
 
+/// Ends a search for logins by the list of this name. Where none was made by it, the line says why.
+/// A list with entries that no log can be compared with has a line about these.
+pub fn end_logins(rt: &HostRuntime, list: &str, ended: LoginsEnd) -> u8
+    ensures { result ≡ logins_status ended.entry }
+{
+    match ended {
+        LoginsEnd::Ended { done, summary } => {
+            if let Some(summary) = summary {
+                print_login_summary(rt, list, &summary);
+            }
+            end(rt, &Krl, &done)
+        }
+        LoginsEnd::Incomparable(why) => fail_in_words(rt, list, words_of(why)),
+        LoginsEnd::Refused(fault) => stop(rt, &Krl, &fault),
+    }
+}
+
 // Why no audit is made by such a list.
 fn words_of(why: Incomparable) -> &'static [u8] {
     match why {
@@ -93,6 +112,19 @@ pub fn fail_to_make<'a>(rt: &HostRuntime, fault: &MakeFault<'_>, texts: &'a [Tex
 fn print_summary(rt: &HostRuntime, summary: &Summary) {
     let mut line = Vec::new(rt.alloc());
     if push_summary(rt.alloc(), summary, &mut line).is_ok() {
+        print_line(rt, line.as_slice());
+    }
+}
+
+// Prints the last lines of a search for logins on standard error. Where there is no memory for a
+// line, it is not printed.
+fn print_login_summary(rt: &HostRuntime, list: &str, summary: &LoginSummary) {
+    let mut line = Vec::new(rt.alloc());
+    if summary.sha1s > 0 && push_sha1s(summary.sha1s, &mut line).is_ok() {
+        let _ = fail_in_words(rt, list, line.as_slice());
+    }
+    line.clear();
+    if push_login_summary(rt.alloc(), summary, &mut line).is_ok() {
         print_line(rt, line.as_slice());
     }
 }

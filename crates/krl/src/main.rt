@@ -8,6 +8,7 @@ mod diff;
 mod disk;
 mod ending;
 mod loading;
+mod logins;
 mod make;
 mod names;
 mod screen;
@@ -18,6 +19,7 @@ use crate::audit::audit;
 use crate::check::check;
 use crate::diff::diff;
 use crate::ending::{fault_line, reason_of};
+use crate::logins::logins;
 use crate::make::make;
 use crate::show::show;
 use byte_streams::{FromRead, Source};
@@ -63,6 +65,7 @@ impl Program for Krl {
     fn run(&self, rt: &HostRuntime, words: &[String]) -> u8 {
         match task_of(rt.alloc(), VERSION, words) {
             Ok(Task::Audit(task)) => audit(rt, &task),
+            Ok(Task::Logins(task)) => logins(rt, &task),
             Ok(Task::Check(task)) => check(rt, &task),
             Ok(Task::Show(task)) => show(rt, &task),
             Ok(Task::Make(task)) => make(rt, &task),

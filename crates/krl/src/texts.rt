@@ -5,6 +5,7 @@ ghost use Rattle.krl.specs.Texts.{AreInputs, AreIndexed, IsListOf};
 
 use crate::ending::fail_to_make;
 use byte_streams::Lent;
+use krl_fingerprints::KeysBy;
 use krl_system::date;
 use list_making::Made;
 use ssh_wire::Bytes;
@@ -28,20 +29,21 @@ pub fn date_of<'a>(rt: &HostRuntime, texts: &'a [Text<'a>]) -> Result<u64, u8>
     }
 }
 
-/// The texts by what their lines name, if there is a text; or the exit status where they are
-/// refused.
+/// The texts by what their lines name, for queries that give keys so, if there is a text; or the
+/// exit status where they are refused.
 pub fn index_of<'a>(
     rt: &HostRuntime,
+    by: KeysBy,
     date: u64,
     texts: &'a [Text<'a>],
 ) -> Result<Option<TextIndex<'a>>, u8>
-    ensures indexed { IfOk result (AreIndexed date texts.now) }
+    ensures indexed { IfOk result (AreIndexed by date texts.now) }
     ensures refused { IfErr result (λ status. status ≡ 255) }
 {
     if texts.is_empty() {
         return Ok(None);
     }
-    match index_in(rt.alloc(), date, texts) {
+    match index_in(rt.alloc(), by, date, texts) {
         Ok(index) => Ok(Some(index)),
         Err(fault) => Err(fail_to_make(rt, &fault, texts)),
     }

@@ -1,12 +1,12 @@
 -- The options whose values are files that are read, and when two of them are standard input.
-use Rattle.std.specs.Prelude.{ℕ, ◌&&◌, ◌||◌, nat_lt, Bool, List, [], ◌∷◌, codes, length, filter}
-use Rattle.std.specs.Prelude.{flat_map}
+use Rattle.std.specs.Prelude.{ℕ, ◌&&◌, ◌||◌, nat_lt, Bool, not, List, [], ◌∷◌, codes, length}
+use Rattle.std.specs.Prelude.{filter, flat_map}
 use Rattle.std.specs.Str.{bytes_eq}
 use Rattle.clap.specs.Walk.{Row}
 use Rattle.option_table.specs.Value.{values_in}
 
--- the options and words of every subcommand that name files to read, except the files of an audit
--- and the texts of a list
+-- the options and words of every subcommand that name files to read, except the files of an audit,
+-- the logs of krl logins and the texts of a list
 abbrev pub read_options : List (List ℕ)
 read_options =
     codes "list" ∷ codes "texts" ∷ codes "newer-than" ∷ codes "superset-of" ∷ codes "names"
@@ -26,4 +26,4 @@ abbrev pub reads_twice : (name : List ℕ) → List Row → Bool
 reads_twice name rows =
     nat_lt 1 (inputs_in read_options rows)
     || ((nat_lt 0 (inputs_in read_options rows) && nat_lt 0 (inputs_in (codes "files" ∷ []) rows))
-    || (bytes_eq name (codes "make") && nat_lt 1 (inputs_in (codes "files" ∷ []) rows)))
+    || (not (bytes_eq name (codes "audit")) && nat_lt 1 (inputs_in (codes "files" ∷ []) rows)))

@@ -34,9 +34,12 @@ abbrev pub text_of_misuse : Misuse → List ℕ
 text_of_misuse misuses.Incomplete = why_line (codes "an argument is missing") ++ help_line
 text_of_misuse misuses.TwoInputs =
     why_line (codes "standard input (-) can be read for one file only") ++ help_line
-text_of_misuse misuses.NoList = error_text (codes "-f or -t is needed") audit_usage
+text_of_misuse misuses.NoList = why_line (codes "-f or -t is needed") ++ help_line
 text_of_misuse misuses.NothingToAudit =
     error_text (codes "a file, a directory or --files0-from is needed") audit_usage
+text_of_misuse misuses.NoLog = error_text
+    (codes "a file is needed")
+    (codes "logins [-f <krl>] [-t <text>] [-aq] [--json] [file]...")
 text_of_misuse misuses.ExcludesPath =
     error_text (codes "--exclude takes the name of a file or a directory, not a path") audit_usage
 text_of_misuse misuses.WrongAge = error_text

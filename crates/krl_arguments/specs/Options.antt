@@ -22,8 +22,18 @@ audit_rules =
     ∷ long_value_rule (codes "files0-from")
     ∷ words_rule (codes "files") ∷ []
 
+-- krl logins: -f, -t, -a, -q, --json, and the logs
+abbrev pub logins_rules : List Rule
+logins_rules =
+    letter_value_rule (codes "list") 102
+    ∷ letter_values_rule (codes "texts") 116
+    ∷ letter_rule (codes "fine") 97
+    ∷ letter_rule (codes "quiet") 113
+    ∷ long_rule (codes "json")
+    ∷ words_rule (codes "files") ∷ []
+
 -- krl check: the list, --newer-than, --superset-of, --max-age, --max-cas, --keep, --canary,
--- --allow-empty, --json and --print-version
+-- --allow-empty, --json, --names and --print-version
 abbrev pub check_rules : List Rule
 check_rules =
     word_rule (codes "list")
@@ -35,6 +45,7 @@ check_rules =
     ∷ long_values_rule (codes "canary")
     ∷ long_rule (codes "allow-empty")
     ∷ long_rule (codes "json")
+    ∷ long_values_rule (codes "names")
     ∷ long_rule (codes "print-version") ∷ []
 
 -- krl show: --json, --no-name, --names, and the lists
@@ -91,7 +102,9 @@ program = with_subcommand
     (with_subcommand
     (with_subcommand
     (with_subcommand
+    (with_subcommand
     (with_subcommand bare (with_all (codes "audit") audit_rules))
+    (with_all (codes "logins") logins_rules))
     (with_all (codes "check") check_rules))
     (with_all (codes "show") show_rules))
     (with_all (codes "make") make_rules))

@@ -18,6 +18,7 @@ use Rattle.krl_arguments.specs.declared.misuse.Misuse.TheVariants as misuses
 use Rattle.krl_arguments.specs.declared.task.Audit.{Audit as AuditOf}
 use Rattle.krl_arguments.specs.declared.task.Check.{Check as CheckOf}
 use Rattle.krl_arguments.specs.declared.task.Diff.{Diff as DiffOf}
+use Rattle.krl_arguments.specs.declared.task.Logins.{Logins as LoginsOf}
 use Rattle.krl_arguments.specs.declared.task.Show.{Show as ShowOf}
 use Rattle.krl_arguments.specs.declared.task.Task.{Task as TaskOf}
 use Rattle.krl_arguments.specs.declared.task.Task.TheVariants as tasks
@@ -37,8 +38,17 @@ pub record Audit : Type 0 where
   pub names_from : Option (List ℕ)
   pub files : List (List ℕ)
 
--- a check: the list, its conditions, whether --json is given, and whether only its version is
--- printed
+-- a search for logins: the list, the texts, whether -a, -q and --json are given, and the logs
+pub record Logins : Type 0 where
+  pub list : Option (List ℕ)
+  pub texts : List (List ℕ)
+  pub all : Bool
+  pub quiet : Bool
+  pub json : Bool
+  pub files : List (List ℕ)
+
+-- a check: the list, its conditions, whether --json is given, the texts of --names, and whether
+-- only its version is printed
 pub record Check : Type 0 where
   pub list : List ℕ
   pub newer_than : Option (List ℕ)
@@ -49,6 +59,7 @@ pub record Check : Type 0 where
   pub canary : List (List ℕ)
   pub allow_empty : Bool
   pub json : Bool
+  pub names : List (List ℕ)
   pub print_version : Bool
 
 -- lists that are shown, whether --json and --no-name are given, and the texts of --names
@@ -67,6 +78,7 @@ pub record Diff : Type 0 where
 
 pub data Task : Type 0 where
   AuditTask : Audit → Task
+  LoginsTask : Logins → Task
   CheckTask : Check → Task
   ShowTask : Show → Task
   MakeTask : Make → Task
@@ -119,16 +131,38 @@ if_list audit =
 abbrev pub audit_of : List Row → Result Audit Misuse
 audit_of rows = if_list (audit_with rows)
 
+abbrev pub logins_with : List Row → Logins
+logins_with rows = record {
+  list = first_of (codes "list") rows;
+  texts = values_in (codes "texts") rows;
+  all = is_set (codes "fine") rows;
+  quiet = is_set (codes "quiet") rows;
+  json = is_set (codes "json") rows;
+  files = values_in (codes "files") rows;
+}
+
+-- The search for logins, if a list or a text and a log are given.
+abbrev pub if_searches : Logins → Result Logins Misuse
+if_searches logins =
+    if not (is_some logins.list) && is_empty logins.texts then Err misuses.NoList
+    else if is_empty logins.files then Err misuses.NoLog
+    else Ok logins
+
+abbrev pub logins_of : List Row → Result Logins Misuse
+logins_of rows = if_searches (logins_with rows)
+
 -- the first of these names, if there is one
 abbrev pub first_name : List (List ℕ) → List ℕ
 first_name [] = []
 first_name (name ∷ names) = name
 
+-- The name of the list of an audit or of a search for logins: the one that is given, otherwise that
+-- of the first text.
 abbrev pub name_or_first : Option (List ℕ) → List (List ℕ) → List ℕ
 name_or_first None texts = first_name texts
 name_or_first (Some list) texts = list
 
--- The name of the list of an audit: the one that is given, or else that of the first text.
+-- the name of the list of an audit
 abbrev pub list_name : Audit → List ℕ
 list_name audit = name_or_first audit.list audit.texts
 
@@ -147,15 +181,21 @@ check_with rows list = record {
   canary = values_in (codes "canary") rows;
   allow_empty = is_set (codes "allow-empty") rows;
   json = is_set (codes "json") rows;
+  names = values_in (codes "names") rows;
   print_version = is_set (codes "print-version") rows;
 }
+
+-- no file is read but the list
+abbrev pub reads_list_alone : Check → Bool
+reads_list_alone check =
+    not (is_some check.newer_than) && (not (is_some check.superset_of)
+    && (is_empty check.keep && (is_empty check.canary && is_empty check.names)))
 
 -- there is neither a condition nor a form for them
 abbrev pub has_only_version : Check → Bool
 has_only_version check =
-    not (is_some check.newer_than) && (not (is_some check.superset_of)
-    && (not (is_some check.max_age) && (not (is_some check.max_cas) && (is_empty check.keep
-    && (is_empty check.canary && (not check.allow_empty && not check.json))))))
+    reads_list_alone check && (not (is_some check.max_age) && (not (is_some check.max_cas)
+    && (not check.allow_empty && not check.json)))
 
 -- The check, unless its age is no duration, its number of CAs is no number, or its version is
 -- requested together with a condition.
@@ -200,6 +240,7 @@ diff_of rows = diff_with rows (first_of (codes "old") rows) (first_of (codes "ne
 abbrev pub named_task : List ℕ → List Row → Result Task Misuse
 named_task name rows =
     if bytes_eq name (codes "audit") then result_map AuditTask (audit_of rows)
+    else if bytes_eq name (codes "logins") then result_map LoginsTask (logins_of rows)
     else if bytes_eq name (codes "check") then result_map CheckTask (check_of rows)
     else if bytes_eq name (codes "show") then Ok (ShowTask (show_with rows))
     else if bytes_eq name (codes "make") then result_map MakeTask (make_of rows)
@@ -232,6 +273,16 @@ audit_by audit = record {
   files = map (λ name. name.now) audit.files.items;
 }
 
+abbrev pub logins_by : LoginsOf → Logins
+logins_by logins = record {
+  list = option_map (λ text. text.now) logins.list;
+  texts = map (λ name. name.now) logins.texts.items;
+  all = logins.all;
+  quiet = logins.quiet;
+  json = logins.json;
+  files = map (λ name. name.now) logins.files.items;
+}
+
 abbrev pub check_by : CheckOf → Check
 check_by check = record {
   list = check.list.now;
@@ -243,6 +294,7 @@ check_by check = record {
   canary = map (λ name. name.now) check.canary.items;
   allow_empty = check.allow_empty;
   json = check.json;
+  names = map (λ name. name.now) check.names.items;
   print_version = check.print_version;
 }
 
@@ -264,6 +316,7 @@ diff_by diff = record {
 
 abbrev pub task_by : TaskOf → Task
 task_by (tasks.Audit audit) = AuditTask (audit_by audit)
+task_by (tasks.Logins logins) = LoginsTask (logins_by logins)
 task_by (tasks.Check check) = CheckTask (check_by check)
 task_by (tasks.Show show) = ShowTask (show_by show)
 task_by (tasks.Make make) = MakeTask (make_by make)

@@ -36,7 +36,7 @@ pub(crate) fn reads_twice(
 {
     let options = inputs_in(alloc, found, &READ_OPTIONS)?;
     let files = inputs_in(alloc, found, &["files"])?;
-    Ok(options > 1 || options > 0 && files > 0 || name == "make" && files > 1)
+    Ok(options > 1 || options > 0 && files > 0 || name != "audit" && files > 1)
 }
 
 // How many values of these options are standard input.

@@ -13,4 +13,4 @@ mod task;
 mod tasks;
 
 pub use command::task_of;
-pub use task::{Audit, Check, Diff, Make, Show, Task};
+pub use task::{Audit, Check, Diff, Logins, Make, Show, Task};

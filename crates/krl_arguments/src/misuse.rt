@@ -10,10 +10,12 @@ pub enum Misuse {
     Incomplete,
     /// Standard input is named twice.
     TwoInputs,
-    /// `krl audit` without a list and without a text.
+    /// `krl audit` or `krl logins` without a list and without a text.
     NoList,
     /// `krl audit` without a file, a directory or a file of names.
     NothingToAudit,
+    /// `krl logins` without a log.
+    NoLog,
     /// A value of `--exclude` that no entry of a directory has as its name.
     ExcludesPath,
     /// A value of `--max-age` that is no duration.
@@ -40,6 +42,7 @@ impl Misuse {
             Misuse::TwoInputs => TWO_INPUTS,
             Misuse::NoList => NO_LIST,
             Misuse::NothingToAudit => NOTHING_TO_AUDIT,
+            Misuse::NoLog => NO_LOG,
             Misuse::ExcludesPath => EXCLUDES_PATH,
             Misuse::WrongAge => WRONG_AGE,
             Misuse::WrongMost => WRONG_MOST,
@@ -63,9 +66,6 @@ For more information, try '--help'.
 
 const NO_LIST: &str = "error: -f or -t is needed
 
-Usage: krl audit [-f <krl>] [-t <text>] [-aqx] [--all] [--canary <file>] [--exclude <name>] \
-[--json] [--files0-from <file>] [file|directory]...
-
 For more information, try '--help'.
 ";
 
@@ -73,6 +73,13 @@ const NOTHING_TO_AUDIT: &str = "error: a file, a directory or --files0-from is n
 
 Usage: krl audit [-f <krl>] [-t <text>] [-aqx] [--all] [--canary <file>] [--exclude <name>] \
 [--json] [--files0-from <file>] [file|directory]...
+
+For more information, try '--help'.
+";
+
+const NO_LOG: &str = "error: a file is needed
+
+Usage: krl logins [-f <krl>] [-t <text>] [-aq] [--json] [file]...
 
 For more information, try '--help'.
 ";

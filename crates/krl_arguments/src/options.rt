@@ -78,7 +78,40 @@ const AUDIT: [Argument; 11] = [
     },
 ];
 
-const CHECK: [Argument; 10] = [
+const LOGINS: [Argument; 6] = [
+    Argument {
+        id: "list",
+        syntax: Syntax::LetterValue('f', "krl"),
+        help: "The revocation list; - is standard input",
+    },
+    Argument {
+        id: "texts",
+        syntax: Syntax::LetterValues('t', "text"),
+        help: "Name the lines of this text that explain a login; without -f, search by its list",
+    },
+    Argument {
+        id: "fine",
+        syntax: Syntax::Letter('a'),
+        help: "Name the logins that are not revoked as well",
+    },
+    Argument {
+        id: "quiet",
+        syntax: Syntax::Letter('q'),
+        help: "Print nothing on standard output, and end after the first file with a revoked login",
+    },
+    Argument {
+        id: "json",
+        syntax: Syntax::Long,
+        help: "Print one JSON object on a line for each login",
+    },
+    Argument {
+        id: "files",
+        syntax: Syntax::Words("file"),
+        help: "The logs; - is standard input",
+    },
+];
+
+const CHECK: [Argument; 11] = [
     Argument {
         id: "list",
         syntax: Syntax::Word("krl"),
@@ -123,6 +156,11 @@ const CHECK: [Argument; 10] = [
         id: "json",
         syntax: Syntax::Long,
         help: "Print each condition as a JSON object, also those that hold",
+    },
+    Argument {
+        id: "names",
+        syntax: Syntax::LongValues("file"),
+        help: "Name the CAs as this text of a list does; - is standard input",
     },
     Argument {
         id: "print-version",
@@ -232,6 +270,13 @@ pub const AUDITING: Subcommand = Subcommand {
     arguments: &AUDIT,
 };
 
+/// `krl logins`.
+pub const SEARCHING: Subcommand = Subcommand {
+    name: "logins",
+    about: "Finds logins with revoked keys in logs of sshd",
+    arguments: &LOGINS,
+};
+
 /// `krl check`.
 pub const CHECKING: Subcommand = Subcommand {
     name: "check",
@@ -271,11 +316,13 @@ pub fn program<'a>(alloc: Global, version: &'a str) -> Result<Command<'a>, Alloc
         .propagate_version(true)
         .subcommand_required(true);
     let audit = subcommand_of(alloc, &AUDITING)?;
+    let logins = subcommand_of(alloc, &SEARCHING)?;
     let check = subcommand_of(alloc, &CHECKING)?;
     let show = subcommand_of(alloc, &SHOWING)?;
     let make = subcommand_of(alloc, &MAKING)?;
     let diff = subcommand_of(alloc, &COMPARING)?;
     bare.subcommand(audit)?
+        .subcommand(logins)?
         .subcommand(check)?
         .subcommand(show)?
         .subcommand(make)?

@@ -1,13 +1,15 @@
 //! The tasks that the words ask for.
 
-ghost use Rattle.std.specs.Prelude.{◌≡◌};
-ghost use Rattle.krl_arguments.specs.Task.{audit_by, list_name};
+ghost use Rattle.std.specs.Prelude.{◌≡◌, map, option_map};
+ghost use Rattle.krl_arguments.specs.Task.{audit_by, list_name, logins_by, name_or_first};
 
 /// The task that the words ask for.
 #[derive(Drop)]
 pub enum Task<'a> {
     /// `krl audit`.
     Audit(Audit<'a>),
+    /// `krl logins`.
+    Logins(Logins<'a>),
     /// `krl check`.
     Check(Check<'a>),
     /// `krl show`.
@@ -50,11 +52,47 @@ impl<'a> Audit<'a> {
     pub fn list_name(&self) -> &'a str
         ensures { result.now ≡ list_name (audit_by self.now) }
     {
-        match (self.list, self.texts.as_slice()) {
-            (Some(list), _) => list,
-            (None, [first, ..]) => *first,
-            (None, []) => "",
-        }
+        name_or_first(self.list, self.texts.as_slice())
+    }
+}
+
+/// `krl logins`: the list, which logins are printed, and the logs that are searched.
+#[derive(Drop)]
+pub struct Logins<'a> {
+    /// The revocation list, by `-f`. Without it, the list is the one that the texts make.
+    pub list: Option<&'a str>,
+    /// The texts whose lines explain the logins, by `-t`.
+    pub texts: Vec<&'a str>,
+    /// True if logins that are not revoked are printed too, by `-a`.
+    pub all: bool,
+    /// True if nothing is printed on standard output, by `-q`.
+    pub quiet: bool,
+    /// True if logins are printed as JSON, by `--json`.
+    pub json: bool,
+    /// The logs.
+    pub files: Vec<&'a str>,
+}
+
+impl<'a> Logins<'a> {
+    /// The name of the list: that of `-f`, or else that of the first text.
+    pub fn list_name(&self) -> &'a str
+        ensures { let logins = logins_by self.now in
+            result.now ≡ name_or_first logins.list logins.texts }
+    {
+        name_or_first(self.list, self.texts.as_slice())
+    }
+}
+
+// The name that is given, or else that of the first text.
+fn name_or_first<'a>(list: Option<&'a str>, texts: &[&'a str]) -> &'a str
+    ensures { result.now ≡ name_or_first
+        (option_map (λ text. text.now) list.entry)
+        (map (λ name. name.now) texts.now) }
+{
+    match (list, texts) {
+        (Some(list), _) => list,
+        (None, [first, ..]) => *first,
+        (None, []) => "",
     }
 }
 
@@ -79,6 +117,8 @@ pub struct Check<'a> {
     pub allow_empty: bool,
     /// True if each condition is printed as JSON, by `--json`.
     pub json: bool,
+    /// The texts that name certificate authorities, by `--names`.
+    pub names: Vec<&'a str>,
     /// True if only its version is printed, by `--print-version`.
     pub print_version: bool,
 }

@@ -7,8 +7,9 @@ ghost use Rattle.clap.specs.Walk.{rows_of};
 ghost use Rattle.krl_arguments.specs.Misuse.{result_map};
 ghost use Rattle.krl_arguments.specs.Task.{audit_by, audit_of, audit_with, check_by, check_of};
 ghost use Rattle.krl_arguments.specs.Task.{check_with, diff_by, diff_of, has_only_version, if_any};
-ghost use Rattle.krl_arguments.specs.Task.{if_checks, if_list, if_names, is_no_name, max_age_of};
-ghost use Rattle.krl_arguments.specs.Task.{named_task, show_by, show_with};
+ghost use Rattle.krl_arguments.specs.Task.{if_checks, if_list, if_names, if_searches, is_no_name};
+ghost use Rattle.krl_arguments.specs.Task.{logins_by, logins_of, logins_with, max_age_of};
+ghost use Rattle.krl_arguments.specs.Task.{named_task, reads_list_alone, show_by, show_with};
 ghost use Rattle.krl_arguments.specs.Task.{task_by, task_in};
 
 use crate::duration::duration_of;
@@ -16,7 +17,7 @@ use crate::inputs::reads_twice;
 use crate::making::make_in;
 use crate::misuse::Misuse;
 use crate::number::{count_at, is_wrong};
-use crate::task::{Audit, Check, Diff, Show, Task};
+use crate::task::{Audit, Check, Diff, Logins, Show, Task};
 use clap::ArgMatches;
 use option_table::{is_set, value_of, values_of};
 use std::alloc::{AllocError, Global};
@@ -49,6 +50,9 @@ fn named_task<'a>(
 {
     if name == "audit" {
         return Ok(audit_in(alloc, found)?.map(Task::Audit));
+    }
+    if name == "logins" {
+        return Ok(logins_in(alloc, found)?.map(Task::Logins));
     }
     if name == "check" {
         return Ok(check_in(alloc, found)?.map(Task::Check));
@@ -147,6 +151,47 @@ fn is_no_name(name: &str) -> bool
     name.as_bytes().contains(&b'/') || name == "" || name == "." || name == ".."
 }
 
+// The search for logins of these matches.
+fn logins_in<'a>(
+    alloc: Global,
+    found: &ArgMatches<'a>,
+) -> Result<Result<Logins<'a>, Misuse>, AllocError>
+    ensures { IfOk result (λ logins.
+        result_map logins_by logins ≡ logins_of (rows_of (found_of found.now))) }
+{
+    Ok(if_searches(logins_with(alloc, found)?))
+}
+
+// The values of a search for logins.
+fn logins_with<'a>(alloc: Global, found: &ArgMatches<'a>) -> Result<Logins<'a>, AllocError>
+    ensures { IfOk result (λ logins.
+        logins_by logins ≡ logins_with (rows_of (found_of found.now))) }
+{
+    let texts = values_of(alloc, found, "texts")?;
+    let files = values_of(alloc, found, "files")?;
+    Ok(Logins {
+        list: value_of(found, "list"),
+        texts,
+        all: is_set(found, "fine"),
+        quiet: is_set(found, "quiet"),
+        json: is_set(found, "json"),
+        files,
+    })
+}
+
+// The search for logins, if a list or a text and a log are given.
+fn if_searches(logins: Logins<'_>) -> Result<Logins<'_>, Misuse>
+    ensures { result_map logins_by result ≡ if_searches (logins_by logins.entry) }
+{
+    if logins.list.is_none() && logins.texts.is_empty() {
+        Err(Misuse::NoList)
+    } else if logins.files.is_empty() {
+        Err(Misuse::NoLog)
+    } else {
+        Ok(logins)
+    }
+}
+
 // The check of these matches.
 fn check_in<'a>(
     alloc: Global,
@@ -172,6 +217,7 @@ fn check_with<'a>(
 {
     let keep = values_of(alloc, found, "keep")?;
     let canary = values_of(alloc, found, "canary")?;
+    let names = values_of(alloc, found, "names")?;
     Ok(Check {
         list,
         newer_than: value_of(found, "newer-than"),
@@ -182,6 +228,7 @@ fn check_with<'a>(
         canary,
         allow_empty: is_set(found, "allow-empty"),
         json: is_set(found, "json"),
+        names,
         print_version: is_set(found, "print-version"),
     })
 }
@@ -217,14 +264,22 @@ fn if_checks<'a>(found: &ArgMatches<'_>, check: Check<'a>) -> Result<Check<'a>, 
 fn has_only_version(check: &Check<'_>) -> bool
     ensures { result ≡ has_only_version (check_by check.now) }
 {
-    check.newer_than.is_none()
-        && check.superset_of.is_none()
+    reads_list_alone(check)
         && check.max_age.is_none()
         && check.max_cas.is_none()
-        && check.keep.is_empty()
-        && check.canary.is_empty()
         && !check.allow_empty
         && !check.json
+}
+
+// Returns true if no file is read but the list.
+fn reads_list_alone(check: &Check<'_>) -> bool
+    ensures { result ≡ reads_list_alone (check_by check.now) }
+{
+    check.newer_than.is_none()
+        && check.superset_of.is_none()
+        && check.keep.is_empty()
+        && check.canary.is_empty()
+        && check.names.is_empty()
 }
 
 // The lists of these matches, and how they are shown.

@@ -33,7 +33,8 @@ use audit_text::{LineKind, Location, More, write_more};
 use byte_streams::Sink;
 use key_text::{Private, before_ending, is_container, split_line};
 use run_faults::{Cause, RunFault};
-use run_output::{Done, Run};
+use run_output::{Done, Printer, Run};
+use std::alloc::Global;
 
 // The line that ends a private key.
 const END_LINE: &[u8] = b"-----END OPENSSH PRIVATE KEY-----";
@@ -50,6 +51,24 @@ pub struct Auditor<'q, 'w, W: Sink> {
 }
 
 impl<'q, 'w, W: Sink> Auditor<'q, 'w, W> {
+    /// An auditor that printed and counted nothing yet.
+    pub fn new(alloc: Global, judge: Judge<'q>, printer: Printer<'w, W>) -> Self
+        ensures judge { result.judge ≡ judge.entry }
+        ensures printer { result.run.printer ≡ printer.entry }
+        ensures counts { result.counts ≡ record { keys = 0; revoked = 0; unread = 0 } }
+    {
+        let run = Run {
+            alloc,
+            printer,
+            line: Vec::new(alloc),
+        };
+        Auditor {
+            judge,
+            run,
+            counts: Counts::NONE,
+        }
+    }
+
     /// Audits a file, given its bytes or why there are none: prints the findings of each of its
     /// lines after the earlier findings, and counts the lines. Each finding depends only on the
     /// list's entries and the canaries, on the name and on the bytes. The first 20 lines with a
@@ -358,8 +377,8 @@ impl<'q, 'w, W: Sink> Auditor<'q, 'w, W> {
     }
 }
 
-// Prints the line that was made, if it is to be printed.
-pub(crate) fn say_made<'a, W: Sink>(
+/// Prints the line that was made, if it is to be printed.
+pub fn say_made<'a, W: Sink>(
     run: &mut Run<W>,
     name: &'a str,
     said: bool,

@@ -25,7 +25,7 @@ impl Counts {
     };
 
     /// The counts with a line of this kind.
-    pub(crate) fn with(self, kind: LineKind) -> Counts
+    pub fn with(self, kind: LineKind) -> Counts
         ensures { result ≡ counted self kind }
     {
         Counts {

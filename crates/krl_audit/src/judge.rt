@@ -49,9 +49,11 @@ pub struct Judge<'q> {
 
 /// The kind of a line, and whether it is printed: then its text was made.
 #[derive(Clone, Copy)]
-pub(crate) struct JudgedLine {
-    pub(crate) kind: LineKind,
-    pub(crate) said: bool,
+pub struct JudgedLine {
+    /// The kind of the line.
+    pub kind: LineKind,
+    /// Whether it is printed.
+    pub said: bool,
 }
 
 impl<'q> Judge<'q> {
@@ -139,8 +141,8 @@ impl<'q> Judge<'q> {
         Ok(JudgedLine { kind, said })
     }
 
-    // The lines of the texts that give the reasons for a key, if texts are given.
-    fn explanation(
+    /// The lines of the texts that give the reasons for a key, if texts are given.
+    pub fn explanation(
         &self,
         alloc: Global,
         subject: &Subject<'_>,
@@ -156,8 +158,8 @@ impl<'q> Judge<'q> {
         }
     }
 
-    // Why the list revokes a key, unless it is a canary.
-    fn reasons(&self, subject: &Subject<'_>) -> Reasons
+    /// Why the list revokes a key, unless it is a canary.
+    pub fn reasons(&self, subject: &Subject<'_>) -> Reasons
         ensures { result ≡ judged_reasons self.now subject.now }
     {
         match self.canaries {
@@ -179,7 +181,7 @@ fn key_kind(marker: Option<Marker>, revoked: bool) -> LineKind
 }
 
 /// Returns true if a line of this kind is printed.
-pub(crate) fn says(shown: Shown, kind: LineKind) -> bool
+pub fn says(shown: Shown, kind: LineKind) -> bool
     ensures { result ≡ says shown kind }
 {
     match kind {

@@ -43,19 +43,22 @@ naming_more (other ∷ lines) (first ∷ said) line entry same =
     ∙ sym (append_assoc (naming (line_of other) first) (naming_all lines said) (naming (line_of line) entry))
 
 pub index_more : (old new : TextIndex) (line : TextLine) (entry : Option Entry) → new.lines.items ≡ old.lines.items ++ line ∷ []
-    → AddsNames (length old.lines.items) (said_names entry) old.names new.names → IndexesMore old new (naming (line_of line) entry)
-index_more old new line entry pushed adds = λ lines is. record {
-  said = is.said ++ entry ∷ [];
-  one_each = length-append is.said (entry ∷ []) ∙ ap (λ (n : ℕ). n + 1) is.one_each ∙ sym (ap length pushed ∙ length-append old.lines.items (line ∷ []));
-  lines_are =
-      ap (λ (before : List NamingLine). before ++ naming (line_of line) entry) is.lines_are
-      ∙ sym (ap (λ (items : List TextLine). naming_all items (is.said ++ entry ∷ [])) pushed ∙ naming_more old.lines.items is.said line entry is.one_each);
-  found = λ name i.
-      adds.of_each name i
-      ∙ ap (λ (r : Bool). r || (said_names entry name && nat_eq i (length old.lines.items))) (is.found name i)
-      ∙ ap (λ (n : ℕ). names_at is.said i name || (said_names entry name && nat_eq i n)) (sym is.one_each)
-      ∙ sym (names_more is.said entry i name);
-}
+    → new.by ≡ old.by → AddsNames (length old.lines.items) (said_names entry) old.names new.names → IndexesMore old new (naming (line_of line) entry)
+index_more old new line entry pushed by adds = record { by = by; adds = λ lines is. indexes lines is }
+  where
+    indexes : (lines : List NamingLine) → Indexes old lines → Indexes new (lines ++ naming (line_of line) entry)
+    indexes lines is = record {
+      said = is.said ++ entry ∷ [];
+      one_each = length-append is.said (entry ∷ []) ∙ ap (λ (n : ℕ). n + 1) is.one_each ∙ sym (ap length pushed ∙ length-append old.lines.items (line ∷ []));
+      lines_are =
+          ap (λ (before : List NamingLine). before ++ naming (line_of line) entry) is.lines_are
+          ∙ sym (ap (λ (items : List TextLine). naming_all items (is.said ++ entry ∷ [])) pushed ∙ naming_more old.lines.items is.said line entry is.one_each);
+      found = λ name i.
+          adds.of_each name i
+          ∙ ap (λ (r : Bool). r || (said_names entry name && nat_eq i (length old.lines.items))) (is.found name i)
+          ∙ ap (λ (n : ℕ). names_at is.said i name || (said_names entry name && nat_eq i n)) (sym is.one_each)
+          ∙ sym (names_more is.said entry i name);
+    }
 
 -- ---- no lines
 

@@ -5,6 +5,7 @@ use Rattle.std.specs.List.{list_any}
 use Rattle.krl_types.specs.Entry.{Entry}
 use Rattle.krl_types.specs.Naming.{Name}
 use Rattle.krl_entries.specs.Tested.{entry_names}
+use Rattle.krl_fingerprints.specs.KeysBy.{entry_by}
 use Rattle.text_entries.specs.Lines.{lines_with}
 use Rattle.text_entries.specs.Says.{Saying, entry_said, standing_after}
 use Rattle.text_entries.specs.TextCause.{no_memory}
@@ -49,9 +50,9 @@ pub record Indexes (index : TextIndex) (lines : List NamingLine) : Type 0 where
 -- ---- changes
 
 -- The index has these lines behind those that it had.
-abbrev pub IndexesMore : (old new : TextIndex) (more : List NamingLine) → Type 0
-IndexesMore old new more =
-    (lines : List NamingLine) → Indexes old lines → Indexes new (lines ++ more)
+pub record IndexesMore (old new : TextIndex) (more : List NamingLine) : Type 0 where
+  pub by : new.by ≡ old.by
+  pub adds : (lines : List NamingLine) → Indexes old lines → Indexes new (lines ++ more)
 
 -- An allocation failed, or the line has this fault.
 abbrev pub IsCause : TextCause → Result Saying TextCause → Type 0
@@ -62,7 +63,7 @@ abbrev pub IndexesLine : {A : Type 0} → TextLine → Result Saying TextCause �
     → (before after : Standing) → (old new : TextIndex) → Type 0
 IndexesLine line says (Ok done) before after old new =
     (saying : Saying) × (says ≡ Ok saying) × (after ≡ standing_after saying before)
-    × IndexesMore old new (naming (line_of line) (entry_said saying))
+    × IndexesMore old new (naming (line_of line) (entry_by old.by (entry_said saying)))
 IndexesLine line says (Err cause) before after old new = IsCause cause says
 
 -- An allocation failed at a line, and no line before it has a fault; or the fault is the first one.
@@ -78,5 +79,5 @@ abbrev pub IndexesText : {A : Type 0} → (file text : List ℕ) → Result A Te
 IndexesText file text (Ok done) first after old new =
     ((lines_with first text).fault ≡ None)
     × (after ≡ (lines_with first text).standing)
-    × IndexesMore old new (naming_lines first file text)
+    × IndexesMore old new (naming_lines old.by first file text)
 IndexesText file text (Err fault) first after old new = IsFault fault (lines_with first text).fault

@@ -9,10 +9,7 @@ use Rattle.std.specs.Int.{to_be_bytes, w64}
 use Rattle.std.specs.List.{filter, flat_map, list_any}
 use Rattle.std.specs.Ordering.{nat_cmp}
 use Rattle.std.specs.Str.{bytes_eq}
-use Rattle.krl_types.specs.Entry.{Entry, RangeEntry}
-use Rattle.krl_types.specs.Item.{item_entry}
 use Rattle.krl_types.specs.Naming.{IdOf, KeyOf, Name, SerialOf, Sha1Of, Sha256Of}
-use Rattle.krl_entries.specs.Facts.{AuthorityFact, Fact, ItemFact, SerialsFact}
 use Rattle.krl_entries.specs.Tested.{entry_names}
 use Rattle.text_index.specs.Fronts.{fronts}
 use Rattle.text_index.specs.Postings.{entry_at}
@@ -61,9 +58,3 @@ pub record Puts (key : List ℕ) (posting : Posting) (old new : NameIndex) : Typ
 pub record AddsNames (line : ℕ) (names : Name → Bool) (old new : NameIndex) : Type 0 where
   pub of_each : (name : Name) (other : ℕ) → list_any (nat_eq other) (numbers new name)
       ≡ (list_any (nat_eq other) (numbers old name) || (names name && nat_eq other line))
-
--- what a fact names
-abbrev pub fact_entries : Fact → List Entry
-fact_entries (AuthorityFact authority) = []
-fact_entries (SerialsFact authority span) = RangeEntry authority span.lo span.hi ∷ []
-fact_entries (ItemFact kind authority item) = item_entry kind authority item ∷ []

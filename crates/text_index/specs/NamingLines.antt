@@ -3,6 +3,8 @@ use Rattle.std.specs.Prelude.{ℕ, ◌+◌, List, [], ◌∷◌, ◌++◌, Optio
 use Rattle.std.specs.List.{slice_split}
 use Rattle.key_text.specs.Lines.{is_newline}
 use Rattle.krl_types.specs.Entry.{Entry}
+use Rattle.krl_fingerprints.specs.KeysBy.{entry_by}
+use Rattle.krl_fingerprints.specs.declared.keys_by.KeysBy.{KeysBy}
 use Rattle.text_entries.specs.Lines.{beginning}
 use Rattle.text_entries.specs.Says.{Saying, entry_said, line_says, standing_after}
 use Rattle.text_entries.specs.declared.standing.Standing.{Standing}
@@ -28,21 +30,22 @@ abbrev pub line_at : (file : List ℕ) (number : ℕ) (text : List ℕ) → Line
 line_at file number text = record { file = file; number = number; text = text }
 
 -- a line, followed by later ones under what stands then
-abbrev pub naming_before : Line → Standing → Result Saying TextCause → (Standing → List NamingLine)
-    → List NamingLine
-naming_before line standing (Ok saying) later =
-    naming line (entry_said saying) ++ later (standing_after saying standing)
-naming_before line standing (Err cause) later = []
+abbrev pub naming_before : KeysBy → Line → Standing → Result Saying TextCause
+    → (Standing → List NamingLine) → List NamingLine
+naming_before by line standing (Ok saying) later =
+    naming line (entry_by by (entry_said saying)) ++ later (standing_after saying standing)
+naming_before by line standing (Err cause) later = []
 
 -- those of lines, of which the first has this number
-abbrev pub naming_from : Standing → (file : List ℕ) → ℕ → List (List ℕ) → List NamingLine
-naming_from standing file number [] = []
-naming_from standing file number (text ∷ texts) =
-    naming_before (line_at file number text) standing (line_says standing text)
-    (λ after. naming_from after file (number + 1) texts)
+abbrev pub naming_from : KeysBy → Standing → (file : List ℕ) → ℕ → List (List ℕ)
+    → List NamingLine
+naming_from by standing file number [] = []
+naming_from by standing file number (text ∷ texts) =
+    naming_before by (line_at file number text) standing (line_says standing text)
+    (λ after. naming_from by after file (number + 1) texts)
 
--- the lines of a text that have an entry, up to its first fault, behind texts that this stands
--- after
-unfoldable pub naming_lines : Standing → (file text : List ℕ) → List NamingLine
-naming_lines standing file text =
-    naming_from (beginning standing) file 1 (slice_split is_newline text)
+-- the lines of a text that have an entry for queries that give keys so, up to its first fault,
+-- behind texts that this stands after
+unfoldable pub naming_lines : KeysBy → Standing → (file text : List ℕ) → List NamingLine
+naming_lines by standing file text =
+    naming_from by (beginning standing) file 1 (slice_split is_newline text)

@@ -9,6 +9,7 @@ use crate::name_index::NameIndex;
 use crate::text_line::TextLine;
 use key_text::split_line;
 use krl_entries::Revocations;
+use krl_fingerprints::{KeysBy, list_by};
 use span_sets::Held;
 use std::alloc::{AllocError, Global};
 use text_entries::{Standing, TextCause, TextFault, read_text, take_line};
@@ -17,16 +18,19 @@ use text_entries::{Standing, TextCause, TextFault, read_text, take_line};
 /// in the order of the texts.
 #[derive(Drop)]
 pub struct TextIndex<'t> {
+    pub(crate) by: KeysBy,
     pub(crate) lines: Vec<TextLine<'t>>,
     pub(crate) names: NameIndex,
 }
 
 impl<'t> TextIndex<'t> {
-    /// No texts. Allocates nothing.
-    pub fn new(alloc: Global) -> TextIndex<'t>
-        ensures { Indexes result [] }
+    /// No texts, for queries that give keys so. Allocates nothing.
+    pub fn new(alloc: Global, by: KeysBy) -> TextIndex<'t>
+        ensures none { Indexes result [] }
+        ensures by { result.by ≡ by }
     {
         TextIndex {
+            by,
             lines: Vec::new(alloc),
             names: NameIndex::new(alloc),
         }
@@ -90,6 +94,7 @@ impl<'t> TextIndex<'t> {
     {
         let mut held: Revocations<Held> = Revocations::new(alloc);
         take_line(alloc, &mut held, standing, line.text)?;
+        let held = list_by(alloc, self.by, held)?;
         self.names.add(alloc, self.lines.len(), &held)?;
         push(&mut self.lines, line)?;
         Ok(())

@@ -5,16 +5,19 @@ ghost use Rattle.krl_entries.specs.Reasons.{IsReason, has_reason, reasons_of};
 ghost use Rattle.krl_entries.specs.declared.reasons.Reason.{Reason as ReasonOf};
 ghost use Rattle.krl_entries.specs.declared.reasons.Reasons.{Reasons as ReasonsOf};
 ghost use Rattle.krl_types.specs.Subject.{Subject as SubjectOf};
+ghost use Rattle.krl_fingerprints.specs.KeysBy.{entries_by};
+ghost use Rattle.krl_fingerprints.specs.declared.keys_by.KeysBy.{KeysBy as KeysByOf};
 ghost use Rattle.text_entries.specs.Lines.{lines_with};
 ghost use Rattle.text_entries.specs.declared.standing.Standing.{Standing as StandingOf};
 ghost use Rattle.text_index.specs.Explaining.{explains, unnamed_by};
 ghost use Rattle.text_index.specs.NamingLines.{NamingLine, naming_lines};
 
-/// The entries of the lines of a text that have one are those that reading the text adds.
+/// The entries of the lines of a text that have one are those that reading the text adds, by blobs
+/// or by fingerprints.
 pub fn lines_have_what_is_read()
-    ensures { (standing : StandingOf) (file text : List ℕ)
-        → map (λ line. line.entry) (naming_lines standing file text)
-        ≡ (lines_with standing text).entries }
+    ensures { (by : KeysByOf) (standing : StandingOf) (file text : List ℕ)
+        → map (λ line. line.entry) (naming_lines by standing file text)
+        ≡ entries_by by (lines_with standing text).entries }
 {}
 
 /// A line explains exactly if its entry gives one of the reasons.

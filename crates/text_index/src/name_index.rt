@@ -5,8 +5,9 @@ ghost use Rattle.krl_entries.specs.Canonical.{entries_in};
 ghost use Rattle.krl_entries.specs.Facts.{fact_of};
 ghost use Rattle.krl_entries.specs.Named.{item_name, named};
 ghost use Rattle.krl_entries.specs.Tested.{some_names};
+ghost use Rattle.krl_fingerprints.specs.Facts.{fact_entries};
 ghost use Rattle.krl_types.specs.Naming.{Name as NameOf, SerialOf};
-ghost use Rattle.text_index.specs.NameIndex.{AddsNames, Puts, fact_entries, numbers, numbers_at};
+ghost use Rattle.text_index.specs.NameIndex.{AddsNames, Puts, numbers, numbers_at};
 ghost use Rattle.text_index.specs.Postings.{sought_name};
 
 use crate::fronts::common_front;

@@ -1,5 +1,6 @@
-//! Lines of texts that are found, and the caller of the page.
+//! Lines of texts that are found, lists of fingerprints, and the callers of the pages.
 
+mod fingerprints;
 mod found;
 mod many;
 mod page;

@@ -7,22 +7,24 @@ ghost use Rattle.text_run.specs.Making.{IsUnread, bytes_from, day_at, text_from}
 use crate::inputs::day_of;
 use crate::make_fault::{MakeCause, MakeFault, line_fault};
 use crate::text::Text;
+use krl_fingerprints::KeysBy;
 use std::alloc::Global;
 use text_entries::Standing;
 use text_index::TextIndex;
 use text_index::laws::lines_have_what_is_read;
 
-/// The lines of texts by what they name, or the first fault of the texts. The date, in seconds
-/// since 1970, decides which of the lines are over.
+/// The lines of texts by what they name, for queries that give keys so, or the first fault of the
+/// texts. The date, in seconds since 1970, decides which of the lines are over.
 pub fn index_in<'a>(
     alloc: Global,
+    by: KeysBy,
     date: u64,
     texts: &'a [Text<'a>],
 ) -> Result<TextIndex<'a>, MakeFault<'a>>
-    ensures indexed { IfOk result (IndexesTexts (day_at date) texts.now) }
+    ensures indexed { IfOk result (IndexesTexts by (day_at date) texts.now) }
     ensures refused { IfErr result (IsUnread (day_at date) texts.now) }
 {
-    let mut index = TextIndex::new(alloc);
+    let mut index = TextIndex::new(alloc, by);
     let mut standing = Standing::new(alloc, day_of(date));
     for text in texts {
         index_text(alloc, &mut index, &mut standing, text)?;
@@ -39,7 +41,7 @@ fn index_text<'a>(
     text: &'a Text<'a>,
 ) -> Result<(), MakeFault<'a>>
     ensures { IndexesText text.now.name (text_from standing.old text.now) result standing.new
-        (text_named standing.old text.now) index.old index.new }
+        (text_named index.old.by standing.old text.now) index.old index.new }
 {
     match &text.content {
         Ok(bytes) => index_bytes(alloc, index, standing, text.name, bytes.as_slice()),
@@ -56,7 +58,7 @@ fn index_bytes<'a>(
     bytes: &'a [u8],
 ) -> Result<(), MakeFault<'a>>
     ensures { IndexesText name.now (bytes_from standing.old name.now bytes.now) result standing.new
-        (bytes_named standing.old name.now bytes.now) index.old index.new }
+        (bytes_named index.old.by standing.old name.now bytes.now) index.old index.new }
 {
     lines_have_what_is_read();
     match index.add_text(alloc, standing, name, bytes) {

@@ -60,7 +60,7 @@ def of_readme(task):
 
 
 def main():
-    for task in "audit", "check", "show", "make", "diff":
+    for task in "audit", "logins", "check", "show", "make", "diff":
         wanted = of_help(task)
         if not wanted:
             print("  the help of krl %s has no options" % task)

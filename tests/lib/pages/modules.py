@@ -107,7 +107,7 @@ def main():
             if not any(it.has(name) for it in (every.values() if is_type else crates)):
                 print("  %s: %s" % (os.path.relpath(page, TOP), name))
     uses = dict(re.findall(r"(?m)^(\w+)(?: staticlib)?:(.*)$", known))
-    left = re.compile(r".*_tests|test_fixtures|text_laws|span_vec|login_lines")
+    left = re.compile(r".*_tests|test_fixtures|text_laws|span_vec")
     uses = {it: uses[it].split() for it in uses if not left.fullmatch(it)}
     uses = {it: [other for other in uses[it] if other in uses] for it in uses}
     picture = re.search(r"(?ms)^```text\n(.*?)^```", text(page))

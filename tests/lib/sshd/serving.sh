@@ -2,7 +2,7 @@
 
 need sshd openssh-server ||
   judge 'sshd is there' '  install it, on Debian by apt-get install openssh-server'
-daemon=$(command -v sshd || echo /usr/sbin/sshd)
+daemon=("$(command -v sshd || echo /usr/sbin/sshd)" -e)
 room=$scratch/sshd
 mkdir -p "$room"
 user=$(id -un)
@@ -35,7 +35,7 @@ END
 # listen PORT: starts sshd, and reports whether it listens. It ends by itself after ten minutes.
 listen() {
   { echo "Port $1" && cat "$room/config.common"; } >"$room/config"
-  timeout 600 "$daemon" -D -e -f "$room/config" 2>"$room/log" &
+  timeout 600 "${daemon[@]}" -D -f "$room/config" 2>"$room/log" &
   server=$!
   for _ in {1..100}; do
     kill -0 $server 2>/dev/null || return
@@ -63,10 +63,10 @@ ends() {
   trap 'rm -rf "$scratch"' EXIT
 }
 
-# enters NAME: whether sshd lets in a client with this key, or with the key user and this
-# certificate.
+# enters NAME [WORD..]: whether sshd lets in a client with this key, or with the key user and this
+# certificate, and with other words for ssh.
 enters() {
-  local words=(-i "$room/$1")
+  local words=(-i "$room/$1" "${@:2}")
   [ -f "$room/$1" ] || words=(-i "$room/user" -o CertificateFile="$room/$1.pub")
   timeout 20 ssh -F none -p "$port" -o IdentitiesOnly=yes -o IdentityAgent=none -o BatchMode=yes \
     -o StrictHostKeyChecking=no -o GSSAPIAuthentication=no -o UserKnownHostsFile=/dev/null \

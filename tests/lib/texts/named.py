@@ -14,6 +14,8 @@ from texts.keys import FIELDS, is_key, parts_of
 MAGIC = b"SSHKRL\n\0"
 # The first second of the year 9999.
 YEAR_9999 = 253_370_764_800
+# Unicode's bidirectional controls, and its line and paragraph separators.
+MOVING = "\u061c\u200e\u200f\u2028\u2029\u202a\u202b\u202c\u202d\u202e\u2066\u2067\u2068\u2069"
 # The types of certificates.
 CERTIFICATES = {it.replace(b"@openssh.com", b"") + b"-cert-v01@openssh.com" for it in FIELDS}
 
@@ -300,9 +302,9 @@ def changes(old, new, names={}):
     return marked("+ ", new.without(old), names) + marked("- ", old.without(new), names)
 
 
-def lost(name, named, other_name, other):
+def lost(name, named, other_name, other, names={}):
     """The lines about a list that is to name all that another one names."""
-    lines = marked("- ", other.without(named))
+    lines = marked("- ", other.without(named), names)
     count = sum(line.startswith("- ") for line in lines)
     if not lines:
         return []
@@ -314,12 +316,17 @@ def lost(name, named, other_name, other):
 
 
 def visible(content, escaped=""):
-    """A text with control characters by their numbers, and some others behind a backslash."""
+    """A text with control characters by their numbers, the bytes of those that move text likewise,
+    and some others behind a backslash."""
     try:
         text, numbered = content.decode(), lambda it: unicodedata.category(it) == "Cc"
     except UnicodeDecodeError:
         text, numbered = content.decode("latin-1"), lambda it: not " " <= it <= "~"
-    shown = lambda it: "\\x%02x" % ord(it) if numbered(it) else "\\" * (it in escaped) + it
+
+    def shown(it):
+        numbers = it.encode() if it in MOVING else [ord(it)] * numbered(it)
+        return "".join("\\x%02x" % byte for byte in numbers) or "\\" * (it in escaped) + it
+
     return "".join(map(shown, text))
 
 

@@ -1,15 +1,18 @@
-//! The callers of the page of `audit_run`, with a tree in memory.
+//! The callers of the pages of `audit_run` and `login_run`, with a tree in memory.
 
 ghost use Rattle.std.specs.Prelude.{◌≡◌, false};
 
 use crate::tests::shelf::{Item, Node, Paper, Shelf};
 use audit_run::{Audited, Order, Screen, Sources, Tree, audit_run, is_audited, is_sought};
 use audit_text::Format;
-use byte_streams::{Lent, ToWrite};
+use byte_streams::{Lent, Sink, Source, ToWrite};
 use krl_audit::Shown;
+use login_run::{LogSources, LoginOrder, LoginsEnd, logins_run};
 use ssh_wire::Bytes;
 use std::alloc::Global;
-use test_fixtures::Taker;
+use std::process::Abort;
+use std::test::Fail;
+use test_fixtures::{GITHUB_LINE, Taker, joined};
 
 const NOTHING: Shown = Shown {
     revoked: false,
@@ -56,6 +59,29 @@ fn count_audited(files: &[(&[u8], &[u8])]) -> usize {
         }
     }
     count
+}
+
+/// Whether these logs can be read to their end, and no login in them is revoked. Prints nothing.
+fn has_no_revoked_login<T: Tree, I: Source + Drop, W: Sink>(
+    alloc: Global,
+    list: Bytes,
+    files: &[&str],
+    given: LogSources<'_, T, I>,
+    out: &mut W,
+) -> bool
+    requires working { W.has_failed out.old ≡ false }
+    requires input { I.has_failed given.input ≡ false }
+{
+    let order = LoginOrder {
+        list: "revoked.krl",
+        texts: None,
+        shown: NOTHING,
+        files,
+    };
+    match logins_run(alloc, &order, list, given, out) {
+        LoginsEnd::Ended { done, .. } => done.status == 0,
+        LoginsEnd::Incomparable(_) | LoginsEnd::Refused(_) => false,
+    }
 }
 
 #[test]
@@ -108,4 +134,40 @@ fn some_files_are_audited(rt: HostRuntime) {
     assert!(rt;
         is_sought(b".ssh") && is_sought(b"x.pub") && is_sought(b"id_x") && !is_sought(b"x")
     );
+}
+
+// A line of a login by the key of `GITHUB_LINE`.
+const LOGIN: &[u8] = b"Accepted publickey for root from ::1 port 22 ssh2: ED25519 \
+SHA256:+DiY3wvvV6TuJJhbpZisF/zLDA0zPMSvHdkr4UvCOqU\r\n";
+
+#[test]
+fn logs_without_a_revoked_login(rt: HostRuntime) -> Result<(), Fail> {
+    let items = [
+        Item("auth.log", Node::File(0, 1, LOGIN)),
+        Item("cron.log", Node::File(0, 2, b"a line\nanother\n")),
+    ];
+    let tree = Shelf { items: &items };
+    let alloc = rt.alloc();
+    let github = joined(alloc, &[GITHUB_LINE, b"\n"])?;
+    assert!(rt; has_none(&rt, alloc, &tree, b"# nothing\n", &["auth.log", "cron.log"]));
+    assert!(rt; has_none(&rt, alloc, &tree, &github, &["cron.log"]));
+    assert!(rt; !has_none(&rt, alloc, &tree, &github, &["cron.log", "auth.log"]));
+    assert!(rt; !has_none(&rt, alloc, &tree, b"# nothing\n", &["gone", "cron.log"]));
+    assert!(rt; !has_none(&rt, alloc, &tree, b"no list\n", &["cron.log"]));
+    assert!(rt; !has_none(&rt, alloc, &tree, &github, &["-"]));
+    Ok(())
+}
+
+// Whether these logs have no revoked login, by a list with these bytes. Standard input is a login
+// by the key of `GITHUB_LINE`.
+fn has_none(rt: &impl Abort, alloc: Global, tree: &Shelf<'_>, list: &[u8], files: &[&str]) -> bool {
+    let mut taker = Taker::whole(alloc);
+    let list = Vec::from_slice(alloc, list).expect(rt, "there is memory");
+    let input = Lent::new(LOGIN);
+    let given = LogSources { tree, input };
+    let mut out = ToWrite::new(&mut taker);
+    let found = has_no_revoked_login(alloc, Bytes::from_vec(list), files, given, &mut out);
+    drop(out);
+    assert!(rt; taker.taken.is_empty());
+    found
 }

@@ -1,6 +1,6 @@
 //! The words of the command line of `krl`.
 
-use krl_arguments::{Audit, Check, Diff, Make, Show, Task, task_of};
+use krl_arguments::{Audit, Check, Diff, Logins, Make, Show, Task, task_of};
 use option_table::CommandFault;
 use std::alloc::Global;
 use std::test::Fail;
@@ -13,6 +13,14 @@ fn audit_by<'a>(alloc: Global, words: &'a [&'a str]) -> Result<Audit<'a>, &'stat
     match task_of(alloc, VERSION, words) {
         Ok(Task::Audit(audit)) => Ok(audit),
         _ => Err("the words ask for an audit"),
+    }
+}
+
+// The search for logins that the words ask for.
+fn logins_by<'a>(alloc: Global, words: &'a [&'a str]) -> Result<Logins<'a>, &'static str> {
+    match task_of(alloc, VERSION, words) {
+        Ok(Task::Logins(logins)) => Ok(logins),
+        _ => Err("the words ask for logins"),
     }
 }
 
@@ -103,6 +111,28 @@ fn audits(rt: HostRuntime) -> Result<(), Fail> {
 }
 
 #[test]
+fn logins_are_searched(rt: HostRuntime) -> Result<(), Fail> {
+    let words = ["krl", "logins", "a", "-aqfk", "--json", "b", "--", "-a"];
+    let logins = logins_by(rt.alloc(), &words)?;
+    assert!(rt; logins.list == Some("k") && logins.list_name() == "k" && logins.texts.is_empty());
+    assert!(rt; logins.all && logins.quiet && logins.json);
+    assert!(rt; logins.files.as_slice() == ["a", "b", "-a"].as_slice());
+    let words = ["krl", "logins", "-f", "k", "-"];
+    let logins = logins_by(rt.alloc(), &words)?;
+    assert!(rt; logins.files.as_slice() == ["-"].as_slice());
+    assert!(rt; !logins.all && !logins.quiet && !logins.json);
+    let words = ["krl", "logins", "-t", "a.txt", "x", "-tb.txt", "-t-"];
+    let logins = logins_by(rt.alloc(), &words)?;
+    assert!(rt; logins.list.is_none() && logins.list_name() == "a.txt");
+    assert!(rt; logins.texts.as_slice() == ["a.txt", "b.txt", "-"].as_slice());
+    let words = ["krl", "logins", "-t", "a.txt", "-f", "-", "x"];
+    let logins = logins_by(rt.alloc(), &words)?;
+    assert!(rt; logins.list == Some("-") && logins.list_name() == "-");
+    assert!(rt; logins.texts.as_slice() == ["a.txt"].as_slice());
+    Ok(())
+}
+
+#[test]
 fn only_names_are_excluded(rt: HostRuntime) -> Result<(), Fail> {
     for excluded in ["", ".", "..", "/", "a/b", "a/"] {
         let words = [
@@ -150,16 +180,21 @@ fn checks(rt: HostRuntime) -> Result<(), Fail> {
         "--json",
         "--newer-than",
         "o",
+        "--names",
+        "t",
+        "--names=-",
     ];
     let check = check_by(rt.alloc(), &words)?;
     assert_eq!(rt; check.list, "k");
     assert!(rt; check.keep.as_slice() == ["ca.pub", "b"].as_slice());
     assert!(rt; check.canary.as_slice() == ["c", "d"].as_slice());
     assert!(rt; check.newer_than == Some("o") && check.max_age == Some(86_400));
+    assert!(rt; check.names.as_slice() == ["t", "-"].as_slice());
     assert!(rt; check.allow_empty && check.json && !check.print_version);
     let check = check_by(rt.alloc(), &["krl", "check", "k", "--print-version"])?;
     assert!(rt; check.print_version && check.keep.is_empty() && check.max_age.is_none());
     assert!(rt; !check.allow_empty && !check.json && check.max_cas.is_none());
+    assert!(rt; check.names.is_empty());
     let check = check_by(rt.alloc(), &["krl", "check", "-", "--max-cas", "0"])?;
     assert!(rt; check.list == "-" && check.max_cas == Some(0));
     for most in ["", "x", "-1", "9007199254740992"] {
@@ -272,7 +307,7 @@ fn comparisons(rt: HostRuntime) -> Result<(), Fail> {
 }
 
 // Words that are refused.
-static REFUSED: [&[&str]; 66] = [
+static REFUSED: [&[&str]; 85] = [
     &["krl", "audit", "-f-", "-"],
     &["krl", "audit", "-f-", "a", "-", "-"],
     &["krl", "audit", "-f-", "--files0-from", "-"],
@@ -284,6 +319,23 @@ static REFUSED: [&[&str]; 66] = [
     &["krl", "audit", "-t-", "-t-", "a"],
     &["krl", "audit", "-t-", "-"],
     &["krl", "audit", "-fk", "-xx", "a"],
+    &["krl", "logins"],
+    &["krl", "logins", "a"],
+    &["krl", "logins", "-f", "k"],
+    &["krl", "logins", "-t", "a"],
+    &["krl", "logins", "-fk", "-", "-"],
+    &["krl", "logins", "-fk", "-", "a", "-"],
+    &["krl", "logins", "-f-", "-"],
+    &["krl", "logins", "-t-", "-"],
+    &["krl", "logins", "-f-", "-t-", "a"],
+    &["krl", "logins", "-t-", "-t-", "a"],
+    &["krl", "logins", "-fk", "-fk", "a"],
+    &["krl", "logins", "-fk", "-aa", "a"],
+    &["krl", "logins", "-fk", "-qq", "a"],
+    &["krl", "logins", "-fk", "--json", "--json", "a"],
+    &["krl", "logins", "-fk", "-x", "a"],
+    &["krl", "logins", "-fk", "--canary", "c", "a"],
+    &["krl", "logins", "-fk", "--files0-from", "a"],
     &["krl", "check", "-", "--newer-than", "-"],
     &["krl", "check", "-", "--superset-of", "-"],
     &["krl", "check", "-", "--keep", "-"],
@@ -298,7 +350,9 @@ static REFUSED: [&[&str]; 66] = [
     &["krl", "show", "--names", "-", "--names", "-", "a"],
     &["krl", "show", "a", "--names"],
     &["krl", "diff", "--names", "-", "-", "a"],
-    &["krl", "check", "k", "--names", "a"],
+    &["krl", "check", "-", "--names", "-"],
+    &["krl", "check", "k", "--names", "-", "--superset-of", "-"],
+    &["krl", "check", "k", "--print-version", "--names", "a"],
     &["krl", "make", "-f", "k", "-", "-"],
     &["krl", "make", "-f-", "a"],
     &["krl", "make", "-f", "k", "-u", "--replace", "a"],
@@ -358,7 +412,8 @@ fn refusals(rt: HostRuntime) -> Result<(), Fail> {
 
 #[test]
 fn helps(rt: HostRuntime) -> Result<(), Fail> {
-    let asked: [&[&str]; 10] = [
+    let asked: [&[&str]; 11] = [
+        &["krl", "logins", "-h"],
         &["krl", "diff", "-h"],
         &["krl", "show", "-h"],
         &["krl", "-h"],
@@ -400,8 +455,18 @@ fn versions(rt: HostRuntime) -> Result<(), Fail> {
 }
 
 // Words that are refused, and the beginning of what is said.
-const SAID: [(&[&str], &str); 12] = [
+const SAID: [(&[&str], &str); 16] = [
     (&["krl", "audit", "a"], "error: -f or -t is needed\n"),
+    (&["krl", "logins", "a"], "error: -f or -t is needed\n"),
+    (&["krl", "logins"], "error: -f or -t is needed\n"),
+    (
+        &["krl", "logins", "-t", "a"],
+        "error: a file is needed\n\nUsage: krl logins [-f <krl>]",
+    ),
+    (
+        &["krl", "logins", "-", "-f", "k", "-"],
+        "error: standard input (-) can be read for one file only\n",
+    ),
     (
         &["krl", "show", "-", "-"],
         "error: standard input (-) can be read for one file only\n",

@@ -113,6 +113,7 @@ fn list_of<'a>(
 ) -> Result<Option<&'a str>, CommandFault> {
     match task_of(alloc, version, words)? {
         Task::Audit(audit) => Ok(audit.list),
+        Task::Logins(logins) => Ok(logins.list),
         Task::Check(check) => Ok(Some(check.list)),
         Task::Show(_) => Ok(None),
         Task::Make(make) => Ok(Some(make.list)),

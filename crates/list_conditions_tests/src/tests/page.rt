@@ -47,7 +47,7 @@ fn version_of(alloc: Global, bytes: &[u8]) -> Option<u64> {
 fn may_be_used<H: Host, W: Sink>(alloc: Global, task: &Check, host: &mut H, out: &mut W) -> bool
     requires { W.has_failed out.old ≡ false }
 {
-    match check_run(alloc, task, host, out) {
+    match check_run(alloc, task, None, host, out) {
         Ok(done) => done.status == 0,
         Err(_) => false,
     }
@@ -77,6 +77,7 @@ fn the_callers_of_the_pages(rt: HostRuntime) {
         canary: Vec::new(rt.alloc()),
         allow_empty: false,
         json: false,
+        names: Vec::new(rt.alloc()),
         print_version: false,
     };
     let mut shelf = Shelf {

@@ -371,9 +371,10 @@ fn checked<W: Sink>(
         canary: Vec::from_slice(alloc, asked.canary)?,
         allow_empty: asked.allow_empty,
         json: asked.json,
+        names: Vec::new(alloc),
         print_version: asked.print_version,
     };
-    Ok(check_run(alloc, &task, &mut shelf, out))
+    Ok(check_run(alloc, &task, None, &mut shelf, out))
 }
 
 // Returns true if a check was stopped by this fault, or by none.

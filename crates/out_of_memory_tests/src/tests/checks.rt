@@ -110,9 +110,10 @@ fn runs_out<W: Sink>(alloc: Global, wanted: Wanted, out: &mut W) -> Result<bool,
         canary: Vec::new(alloc),
         allow_empty: false,
         json: wanted == Wanted::Objects,
+        names: Vec::new(alloc),
         print_version: wanted == Wanted::Version,
     };
-    match check_run(alloc, &task, &mut Shelf, out) {
+    match check_run(alloc, &task, None, &mut Shelf, out) {
         Ok(
             Done {
                 fault: Some(stop),

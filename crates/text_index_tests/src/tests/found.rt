@@ -1,6 +1,7 @@
 //! Which lines explain that a key or a certificate is revoked, on 2026-11-15.
 
 use krl_entries::{Reason, Reasons};
+use krl_fingerprints::KeysBy;
 use krl_types::{CertNames, Subject};
 use ssh_wire::Bytes;
 use std::alloc::{AllocError, Global};
@@ -372,7 +373,7 @@ struct Text<'t> {
 // The index of texts.
 fn index_of<'t>(alloc: Global, texts: &'t [Text<'t>]) -> Result<TextIndex<'t>, TextFault> {
     let mut standing = Standing::new(alloc, TODAY);
-    let mut index = TextIndex::new(alloc);
+    let mut index = TextIndex::new(alloc, KeysBy::Blob);
     for text in texts {
         index.add_text(alloc, &mut standing, text.file, text.bytes.as_slice())?;
     }
@@ -418,7 +419,7 @@ fn lines_as_they_are(rt: HostRuntime) {
     let alloc = rt.alloc();
     let text: &[u8] = b" \t# c\r\n@all\tserial: 5-9 \t# OPS-1 \xc3\xbc\r\n@all serial: 6";
     let mut standing = Standing::new(alloc, TODAY);
-    let mut index = TextIndex::new(alloc);
+    let mut index = TextIndex::new(alloc, KeysBy::Blob);
     let added = index.add_text(alloc, &mut standing, "a", text);
     assert!(rt; added.is_ok());
     let row = Row {
@@ -450,7 +451,7 @@ fn lines_as_they_are(rt: HostRuntime) {
 fn faults_are_reported(rt: HostRuntime) {
     let alloc = rt.alloc();
     let mut standing = Standing::new(alloc, TODAY);
-    let mut index = TextIndex::new(alloc);
+    let mut index = TextIndex::new(alloc, KeysBy::Blob);
     let added = index.add_text(alloc, &mut standing, "a", b"@all id: a\n\nid: b\nid: c");
     let Err(fault) = added else {
         assert!(rt; false, "no authority is current");

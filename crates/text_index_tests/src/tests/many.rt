@@ -2,6 +2,7 @@
 
 use crate::tests::found::{TODAY, reasons_of};
 use krl_entries::Reason;
+use krl_fingerprints::KeysBy;
 use krl_types::{CertNames, Subject};
 use ssh_wire::Bytes;
 use std::process::Abort;
@@ -22,7 +23,7 @@ fn many_lines(rt: HostRuntime) {
             .expect(&rt, "there is memory");
     }
     let mut standing = Standing::new(alloc, TODAY);
-    let mut index = TextIndex::new(alloc);
+    let mut index = TextIndex::new(alloc, KeysBy::Blob);
     let added = index.add_text(alloc, &mut standing, "many", text.as_bytes());
     assert!(rt; added.is_ok());
     for serial in [1, 9, 10, 512, 1_024, 1_025, 1_500, 1_509, 1_510] {

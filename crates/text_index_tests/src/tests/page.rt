@@ -1,10 +1,15 @@
-//! The caller of the page of `text_index`.
+//! The callers of the pages of `text_index` and `krl_fingerprints`.
 
-use krl_entries::Reasons;
+use crate::tests::fingerprints::GITHUB_SHA256;
+use krl_entries::{Reasons, Revocations};
+use krl_fingerprints::{KeysBy, fingerprint_list};
 use krl_types::Subject;
+use span_sets::Held;
 use ssh_wire::Bytes;
-use std::alloc::Global;
+use std::alloc::{AllocError, Global};
 use std::process::Abort;
+use std::test::Fail;
+use test_fixtures::GITHUB;
 use text_entries::{Standing, TextFault};
 use text_index::{Explanation, TextIndex};
 
@@ -15,9 +20,24 @@ fn index_of<'t>(
     file: &'t str,
     text: &'t [u8],
 ) -> Result<TextIndex<'t>, TextFault> {
-    let mut index = TextIndex::new(alloc);
+    let mut index = TextIndex::new(alloc, KeysBy::Blob);
     index.add_text(alloc, &mut Standing::new(alloc, today), file, text)?;
     Ok(index)
+}
+
+/// Whether a list revokes the key that has this SHA-256.
+fn revokes_print(
+    alloc: Global,
+    list: &Revocations<Held>,
+    sha256: &[u8; 32],
+) -> Result<bool, AllocError> {
+    let prints = fingerprint_list(alloc, list)?;
+    let print = Vec::from_slice(alloc, sha256)?;
+    let subject = Subject {
+        plain: Bytes::from_vec(print),
+        cert: None,
+    };
+    Ok(prints.query(&subject))
 }
 
 #[test]
@@ -35,4 +55,15 @@ fn the_caller_of_the_page(rt: HostRuntime) {
     assert!(rt; explanation.lines.len() == 1);
     assert!(rt; explanation.unnamed.bits == 0);
     assert!(rt; index_of(alloc, 0, "a", b"id: b").is_err());
+}
+
+#[test]
+fn a_key_by_its_fingerprint(rt: HostRuntime) -> Result<(), Fail> {
+    let alloc = rt.alloc();
+    let mut list: Revocations<Held> = Revocations::new(alloc);
+    assert!(rt; !revokes_print(alloc, &list, &GITHUB_SHA256)?);
+    list.add_key(GITHUB)?;
+    assert!(rt; revokes_print(alloc, &list, &GITHUB_SHA256)?);
+    assert!(rt; !revokes_print(alloc, &list, &[0; 32])?);
+    Ok(())
 }

@@ -12,10 +12,10 @@ loop-reason-preserved c =
     elim c.if-has.branch [
       | then-has+in_ok-push_reason w ↦
           ap (λ text. text.items) w.text-is
-          ∙ one_more (has_reason c.args.reasons) (λ reason. reason_words reason c.args.subject.now.cert) (λ text. text) refl (λ a b. refl)
+          ∙ one_more (has_reason c.args.reasons) (λ reason. reason_words c.args.by reason c.args.subject.now.cert) (λ text. text) refl (λ a b. refl)
           _ _ _ every_reason loop.reason-index _ c.loop-reason-test.true loop.invariant w.if-has.ensures w.in_ok-push_reason.ensures
       | else-has w ↦
           ap (λ text. text.items) w.text-is
-          ∙ passed_over (has_reason c.args.reasons) (λ reason. reason_words reason c.args.subject.now.cert) (λ text. text) refl (λ a b. refl)
+          ∙ passed_over (has_reason c.args.reasons) (λ reason. reason_words c.args.by reason c.args.subject.now.cert) (λ text. text) refl (λ a b. refl)
           _ _ every_reason loop.reason-index _ c.loop-reason-test.true loop.invariant w.if-has.ensures
     ]

@@ -7,4 +7,4 @@ use Rattle.audit_text.proofs.reasons.push_parts.Given as goal
 
 abbrev pub invariant-loop-reason : goal.invariant-loop-reason
 invariant-loop-reason l =
-    l.text.items ≡ l.initial.text.items ++ flat_map (λ reason. if has_reason l.reasons reason then reason_words reason l.subject.cert else []) (take l.reason-index every_reason)
+    l.text.items ≡ l.initial.text.items ++ flat_map (λ reason. if has_reason l.reasons reason then reason_words l.by reason l.subject.cert else []) (take l.reason-index every_reason)

@@ -23,7 +23,7 @@ returns-in_err-check_list-clause-all g c =
     rw (p.1, p.2) (record {
       told = [];
       after_is = told_none _;
-      are = list_stops c.args.checker.now.auditor.judge.shown.format given.list.name.now given.bytes given.list held c.args.job.task.now c.args.job.limits c.in_err-check_list.field-0.0 _ _ _ _ _ c.requires.form read law list;
+      are = list_stops c.args.checker.now.auditor.judge.shown.format given.list.name.now given.bytes given.list held c.args.job.task.now c.args.limits c.in_err-check_list.field-0.0 _ _ _ _ _ c.requires.form read law list;
     })
 
 pub returns-in_err-check_list-clause-writer : goal.returns-in_err-check_list-clause-writer
@@ -44,7 +44,7 @@ returns-in_err-check_files-clause-all g c =
       told = all.told;
       after_is = all.after_is;
       are =
-          files_stop all.told c.args.checker.now.auditor.judge.shown.format given.list.name.now given.bytes given.list held c.args.job.task.now c.args.job.limits (tt {0}) c.in_err-check_files.field-0.0 _ _ _ _ _ _ _ _ _ c.requires.form read law list files;
+          files_stop all.told c.args.checker.now.auditor.judge.shown.format given.list.name.now given.bytes given.list held c.args.job.task.now c.args.limits (tt {0}) c.in_err-check_files.field-0.0 _ _ _ _ _ _ _ _ _ c.requires.form read law list files;
     })
 
 pub returns-in_err-check_files-clause-writer : goal.returns-in_err-check_files-clause-writer
@@ -70,7 +70,7 @@ returns-clause-all g c =
       told = all.told;
       after_is = all.after_is;
       are =
-          all_checked all.told c.args.checker.now.auditor.judge.shown.format given.list.name.now given.bytes given.list held c.args.job.task.now c.args.job.limits (tt {0}) (tt {0}) c.say_end.result _ _ _ _ _ _ _ _ _ _ c.requires.form read law list files
+          all_checked all.told c.args.checker.now.auditor.judge.shown.format given.list.name.now given.bytes given.list held c.args.job.task.now c.args.limits (tt {0}) (tt {0}) c.say_end.result _ _ _ _ _ _ _ _ _ _ c.requires.form read law list files
           (c.in_ok-check_list.ensures.unread ∙ c.requires.unread) last c.say_end.ensures.refused c.say_end.ensures.unread;
     }
 

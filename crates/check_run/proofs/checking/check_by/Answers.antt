@@ -10,9 +10,9 @@ returns g c =
     let given = c.args.job.given.now in
     let taken = g.W.Sink.taken c.args.out.now in
     let ends = rw c.err.ensures.value at c.finish-done.ensures.ends in
-    let all = ended told.told given.list.name.now given.bytes c.args.job.task.now c.args.job.limits c.check_all-stop.result _ _ taken _ _ _ _ _ _ told.are (rw (c.new-checker.ensures.printer, c.new-printer.ensures, c.requires.working) (begun taken _)) ends in
+    let all = ended told.told given.list.name.now given.bytes c.args.job.task.now c.args.limits c.check_all-stop.result _ _ taken _ _ _ _ _ _ told.are (rw (c.new-checker.ensures.printer, c.new-printer.ensures, c.requires.working) (begun taken _)) ends in
     record {
       told = told.told;
       after_is = told.after_is;
-      are = ended_there told.told given.list.name.now given.bytes c.args.job.task.now c.args.job.limits taken _ _ _ _ _ _ all (search rules) (search rules);
+      are = ended_there told.told given.list.name.now given.bytes c.args.job.task.now c.args.limits taken _ _ _ _ _ _ all (search rules) (search rules);
     }

@@ -20,6 +20,7 @@ returns-in-Ok-difference-clause-found g c =
       told_is = is.told_is;
       names = is.is.named;
       name_is = refl;
+      named_are = refl;
       are = all_lost c.args.held.now given.list.revocations _ own is.is.entries means is.is.means c.in-Ok-difference.ensures.holds;
     }) c.in-Ok.ensures.found)
 

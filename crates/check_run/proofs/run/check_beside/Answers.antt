@@ -7,7 +7,7 @@ use Rattle.check_run.proofs.run.check_beside.Goals as goal
 
 pub returns-in-Err : goal.returns-in-Err
 returns-in-Err g c =
-    tells_as (λ told. IsOtherRefused told c.args.task.now.newer_than c.in-Err.fault) _ _ _ (λ told is.
+    tells_as (λ told. IsOtherRefused told c.args.job.task.now.newer_than c.in-Err.fault) _ _ _ (λ told is.
     other_refused (record {
       stop = c.in-Err.fault;
       is = is;
@@ -62,7 +62,7 @@ returns-in-Ok-age_limit g c =
               losts = losts.told;
               told_is = refl;
               is_other = others.are;
-              header = c.args.given.now.list.header;
+              header = c.args.job.given.now.list.header;
               entries = read.entries;
               names = read.named;
               is_lost = losts.are read.entries read.means;
@@ -88,7 +88,7 @@ returns g c =
             losts = losts.told;
             told_is = refl;
             is_other = others.are;
-            header = c.args.given.now.list.header;
+            header = c.args.job.given.now.list.header;
             entries = read.entries;
             names = read.named;
             is_lost = losts.are read.entries read.means;

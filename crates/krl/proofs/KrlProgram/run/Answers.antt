@@ -1,5 +1,5 @@
 -- The task of the words is done, or they are refused.
-use Rattle.krl.specs.Program.{audited, checked, compared, made, refused, shown}
+use Rattle.krl.specs.Program.{audited, checked, compared, made, refused, searched, shown}
 use Rattle.krl.proofs.KrlProgram.run.Goals as goal
 
 pub returns-in-Ok-Audit : goal.returns-in-Ok-Audit
@@ -19,3 +19,6 @@ returns-in-Ok-Diff c = compared c.in-Ok-Diff.task (rw c.in-Ok-Diff.field-0-is at
 
 pub returns-in-Err : goal.returns-in-Err
 returns-in-Err c = refused c.in-Err.fault c.in-Err.ensures c.refuse.ensures
+
+pub returns-in-Ok-Logins : goal.returns-in-Ok-Logins
+returns-in-Ok-Logins c = searched c.in-Ok-Logins.task (rw c.in-Ok-Logins.field-0-is at c.in-Ok-Logins.ensures) c.logins.ensures

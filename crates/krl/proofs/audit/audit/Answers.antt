@@ -10,6 +10,6 @@ returns c =
       texts = c.in-Ok.texts.items;
       named = rw c.as_slice.ensures.value at c.in-Ok.ensures;
       indexed = rw c.as_ref.ensures.value (rw c.as_slice-3.ensures.value at c.in-Ok-index_of.ensures.indexed);
-      list = rw (c.list_name.ensures, c.as_slice-4.ensures.value) at c.in-Ok-asked_list.ensures.list;
+      made = rw (c.list_name.ensures, c.as_slice-4.ensures.value) at c.in-Ok-asked_list.ensures.list;
     })
     c.audit_list.ensures

@@ -1,13 +1,18 @@
--- The status is that of the run, or nothing was said about the list.
+-- The names are those of the task, and the status is that of the run, or nothing was said about the
+-- list.
 use Rattle.std.proofs.Common.{Err, Ok}
+use Rattle.krl.specs.Runs.{checked, unnamed}
 use Rattle.krl.proofs.check.check.Goals as goal
 
-pub returns-in-Ok : goal.returns-in-Ok
-returns-in-Ok c =
-    let run = c.in-Ok.ensures in
-    record { told = run.told; before = _; after = _; failed = _; result = Ok c.in-Ok.done; ends = run.are; status_is = c.end.ensures }
-
 pub returns-in-Err : goal.returns-in-Err
-returns-in-Err c =
-    let run = c.in-Err.ensures in
-    record { told = run.told; before = _; after = _; failed = _; result = Err c.in-Err.why; ends = run.are; status_is = c.fail_in_words.ensures }
+returns-in-Err c = unnamed c.in-Err.ensures.refused
+
+pub returns-in-Ok-check_run : goal.returns-in-Ok-check_run
+returns-in-Ok-check_run c =
+    let run = c.in-Ok-check_run.ensures in
+    checked c.as_ref.result (rw (c.as_ref.ensures.value, ← c.as_slice.ensures.value) c.in-Ok.ensures.given) run.told _ _ _ (Ok c.in-Ok-check_run.done) run.are c.end.ensures
+
+pub returns : goal.returns
+returns c =
+    let run = c.in-Err-check_run.ensures in
+    checked c.as_ref.result (rw (c.as_ref.ensures.value, ← c.as_slice.ensures.value) c.in-Ok.ensures.given) run.told _ _ _ (Err c.in-Err-check_run.why) run.are c.fail_in_words.ensures

@@ -6,7 +6,7 @@ use Rattle.text_run.proofs.TextsIndexed.{all_indexed, none_indexed, text_indexed
 use Rattle.text_run.proofs.indexed.index_in.Goals as goal
 
 pub loop-text-init : goal.loop-text-init
-loop-text-init c = rw (c.new-standing.ensures, c.day_of.ensures) (none_indexed _ _ _ c.new-index.ensures)
+loop-text-init c = rw (c.new-standing.ensures, c.day_of.ensures) (none_indexed _ _ _ _ c.new-index.ensures.by c.new-index.ensures.none)
 
 pub returns-in_err-index_text-clause-refused : goal.returns-in_err-index_text-clause-refused
 returns-in_err-index_text-clause-refused c =
@@ -17,7 +17,7 @@ returns-in_err-index_text-clause-refused c =
 pub loop-text-preserved : goal.loop-text-preserved
 loop-text-preserved c =
     let at = rw (texts_next c.args.texts.now c.loop-text.text-index c.text-item.result c.text-item.is c.loop-text-test.true) at c.loop-text.invariant in
-    text_indexed _ _ _ _ _ _ _ _ at c.in_ok-index_text.ensures
+    text_indexed _ _ _ _ _ _ _ _ _ at c.in_ok-index_text.ensures
 
 pub returns-clause-indexed : goal.returns-clause-indexed
-returns-clause-indexed c = all_indexed _ _ _ _ (rw (drop_all c.loop-text.text-index c.args.texts.now c.loop-text-test.false) at c.loop-text.invariant)
+returns-clause-indexed c = all_indexed _ _ _ _ _ (rw (drop_all c.loop-text.text-index c.args.texts.now c.loop-text-test.false) at c.loop-text.invariant)

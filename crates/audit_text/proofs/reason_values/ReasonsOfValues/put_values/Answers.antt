@@ -19,10 +19,10 @@ loop-reason-preserved c =
     elim c.if-has.branch [
       | then-has+in_ok-put_reason w ↦
           w.out-is
-          ∙ one_more (has_reason c.args.self.now.1) (λ reason. reason_value reason c.args.self.now.0.now.cert) values_tokens refl values_append
+          ∙ one_more (has_reason c.args.self.now.2) (λ reason. reason_value c.args.self.now.0 reason c.args.self.now.1.now.cert) values_tokens refl values_append
           _ _ _ every_reason loop.reason-index _ c.loop-reason-test.true loop.invariant w.if-has.ensures w.in_ok-put_reason.ensures
       | else-has w ↦
           w.out-is
-          ∙ passed_over (has_reason c.args.self.now.1) (λ reason. reason_value reason c.args.self.now.0.now.cert) values_tokens refl values_append
+          ∙ passed_over (has_reason c.args.self.now.2) (λ reason. reason_value c.args.self.now.0 reason c.args.self.now.1.now.cert) values_tokens refl values_append
           _ _ every_reason loop.reason-index _ c.loop-reason-test.true loop.invariant w.if-has.ensures
     ]

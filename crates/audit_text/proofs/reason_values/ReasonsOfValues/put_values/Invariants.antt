@@ -8,4 +8,4 @@ use Rattle.audit_text.proofs.reason_values.ReasonsOfValues.put_values.Given as g
 
 abbrev pub invariant-loop-reason : goal.invariant-loop-reason
 invariant-loop-reason l =
-    l.out ≡ l.initial.out ++ values_tokens (flat_map (λ reason. if has_reason l.self.1 reason then reason_value reason l.self.0.now.cert else []) (take l.reason-index every_reason))
+    l.out ≡ l.initial.out ++ values_tokens (flat_map (λ reason. if has_reason l.self.2 reason then reason_value l.self.0 reason l.self.1.now.cert else []) (take l.reason-index every_reason))

@@ -4,7 +4,8 @@ use Rattle.krl_entries.specs.Facts.{Fact, fact_of, facts_of}
 use Rattle.krl_entries.specs.Tested.{some_names}
 use Rattle.krl_entries.specs.Canonical.{entries_in}
 use Rattle.text_index.proofs.AddedNames.{adds_nothing, adds_same}
-use Rattle.text_index.proofs.FactNames.{AddsRest, entries_of, facts_are, one_fact_less}
+use Rattle.krl_fingerprints.proofs.FactEntries.{entries_of, facts_are}
+use Rattle.text_index.proofs.FactNames.{AddsRest, one_fact_less}
 use Rattle.text_index.proofs.name_index.NameIndex.add.Goals as goal
 
 pub facts-preserved : goal.facts-preserved

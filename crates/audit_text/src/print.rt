@@ -1,0 +1,48 @@
+//! The printed fingerprint of a key.
+
+ghost use Rattle.std.specs.Prelude.{◌≡◌, IfOk, string_bytes};
+ghost use Rattle.key_text.specs.Fingerprints.{unpadded};
+
+use base64::engine::general_purpose::STANDARD_NO_PAD;
+use key_text::{Hash, fingerprint};
+use krl_fingerprints::KeysBy;
+use line_pieces::{Printed, Words, put};
+use std::alloc::{AllocError, Global};
+
+/// The SHA-256 fingerprint of a key that is given by its blob, or by the fingerprint itself.
+#[derive(Clone, Copy)]
+pub struct KeyPrint<'a> {
+    /// The allocator for the fingerprint.
+    pub alloc: Global,
+    /// How the key is given.
+    pub by: KeysBy,
+    /// The blob, or the 32 bytes of the SHA-256.
+    pub key: &'a [u8],
+}
+
+impl<'a> Printed for KeyPrint<'a> {
+    ghost use Rattle.audit_text.specs.Print.{print_by};
+
+    ghost text = { λ print. print_by print.by print.key.now };
+
+    fn push_to(&self, out: &mut Vec<u8>) -> Result<(), AllocError> {
+        match self.by {
+            KeysBy::Blob => {
+                let print = fingerprint(self.alloc, Hash::Sha256, self.key)?;
+                put!(out; Words(&print))
+            }
+            KeysBy::Fingerprint => {
+                let base64 = unpadded(self.alloc, self.key)?;
+                put!(out; b"SHA256:", Words(base64.as_bytes()))
+            }
+        }
+    }
+}
+
+// The base64 of bytes, without padding (RFC 4648 section 4).
+#[tactic(auto, unfolding(key_text::specs::Fingerprints::unpadded))]
+fn unpadded(alloc: Global, bytes: &[u8]) -> Result<String, AllocError>
+    ensures { IfOk result (λ text. string_bytes text ≡ unpadded bytes.now) }
+{
+    STANDARD_NO_PAD.encode(alloc, bytes)
+}

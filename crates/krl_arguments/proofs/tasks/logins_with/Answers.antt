@@ -1,0 +1,7 @@
+-- Each field is the value that was found.
+use Rattle.std.proofs.Common.{refl}
+use Rattle.krl_arguments.proofs.tasks.logins_with.Goals as goal
+
+pub returns : goal.returns
+returns c =
+    rw (c.value_of.ensures, c.in_ok-texts.ensures, c.is_set.ensures, c.is_set-2.ensures, c.is_set-3.ensures, c.in_ok-files.ensures) refl

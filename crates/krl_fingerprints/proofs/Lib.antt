@@ -1,0 +1,5 @@
+pub mod EntriesBy
+pub mod FactEntries
+pub mod FineFacts
+pub mod PrintedNames
+pub mod Printing

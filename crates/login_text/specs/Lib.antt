@@ -1,0 +1,5 @@
+pub mod Asked
+pub mod Object
+pub mod Outcome
+pub mod Text
+pub mod Why
