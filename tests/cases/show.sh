@@ -339,10 +339,7 @@ for words in '--names' 'cas.krl --names' '--names of-a' '--name of-a cas.krl'; d
     differs 'standard output' '' "$got_output"
   )"
 done
-for words in 'check cas.krl --names of-a' 'make -n -f cas.krl --names of-a text'; do
-  # shellcheck disable=SC2086
-  expect_text "no names of $words" 2 error $words
-done
+expect_text 'no names of make' 2 error make -n -f cas.krl --names of-a text
 
 # Standard input.
 expect 'a list on standard input' 0 "# -: $head
