@@ -47,6 +47,12 @@ pub fn after<'a>(front: &[u8], text: &'a [u8]) -> Option<&'a [u8]>
     ensures after { option_map (λ rest. rest.now) result ≡ after front.now text.now }
     ensures within { IfSome result (λ rest. length rest.now ≤ length text.now) }
 {
+    // Most texts differ in their first byte, which a comparison of all bytes does not end at.
+    if let ([first, ..], [byte, ..]) = (front, text) {
+        if first != byte {
+            return None;
+        }
+    }
     if text.starts_with(front) {
         Some(&text[front.len()..])
     } else {

@@ -3,11 +3,11 @@
 ghost use Rattle.std.specs.Prelude.{◌≡◌, ◌++◌, ◌<◌, length};
 ghost use Rattle.login_run.specs.Log.{BeginsLine, EndsLine, Takes, parts_of};
 
+use crate::feed::split_at_feed;
 use crate::finding::say_line;
 use crate::packed::packed_at;
 use audit_text::Location;
 use byte_streams::Sink;
-use key_text::split_line;
 use krl_audit::Auditor;
 use login_text::Packed;
 use run_faults::{Cause, LIMIT, RunFault};
@@ -42,7 +42,7 @@ pub(crate) fn audit_batch<'a, W: Sink>(
 {
     let mut rest = batch;
     'parts: loop {
-        let (part, after) = split_line(rest);
+        let (part, after) = split_at_feed(rest);
         let Some(after) = after else {
             return begin_line(name, start, part);
         };

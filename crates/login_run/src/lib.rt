@@ -2,6 +2,7 @@
 #![tactic(auto)]
 
 mod batch;
+mod feed;
 mod finding;
 mod judging;
 mod log;

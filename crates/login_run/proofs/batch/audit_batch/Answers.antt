@@ -12,26 +12,26 @@ parts-init g c = record { takes = λ next result new takes. takes }
 
 pub returns-in_default : goal.returns-in_default
 returns-in_default g c =
-    let last : lines_left c.split_line.result.1 ≡ [] = search rules in
-    let split = rw last at c.split_line.ensures.lines in
-    c.parts.invariant.takes _ _ _ (takes_begin c.args.name.now c.split_line.result.0.now (parts_of c.parts.rest.now) _ _ c.begin_line.result _ split c.begin_line.ensures)
+    let last : lines_left c.split_at_feed.result.1 ≡ [] = search rules in
+    let split = rw last at c.split_at_feed.ensures.lines in
+    c.parts.invariant.takes _ _ _ (takes_begin c.args.name.now c.split_at_feed.result.0.now (parts_of c.parts.rest.now) _ _ c.begin_line.result _ split c.begin_line.ensures)
 
 pub returns-in_err-stop : goal.returns-in_err-stop
 returns-in_err-stop g c =
     let p = err_from_is_err_and c.from_residual.result c.from_residual.ensures.1 in
-    let split = rw c.in-Some.is at c.split_line.ensures.lines in
-    rw (p.1, p.2) (c.parts.invariant.takes _ _ _ (takes_err c.args.name.now c.split_line.result.0.now (parts_of c.parts.rest.now) (slice_split is_newline c.in-Some.after.now) _ _ _ _ _ split c.in_err-stop.ensures))
+    let split = rw c.in-Some.is at c.split_at_feed.ensures.lines in
+    rw (p.1, p.2) (c.parts.invariant.takes _ _ _ (takes_err c.args.name.now c.split_at_feed.result.0.now (parts_of c.parts.rest.now) (slice_split is_newline c.in-Some.after.now) _ _ _ _ _ split c.in_err-stop.ensures))
 
 pub returns-in-Some-2 : goal.returns-in-Some-2
 returns-in-Some-2 g c =
-    let split = rw c.in-Some.is at c.split_line.ensures.lines in
-    c.parts.invariant.takes _ _ _ (takes_stop c.args.name.now c.split_line.result.0.now (parts_of c.parts.rest.now) (slice_split is_newline c.in-Some.after.now) _ _ _ _ _ split (rw c.in-Some-2.is at c.in_ok-stop.ensures))
+    let split = rw c.in-Some.is at c.split_at_feed.ensures.lines in
+    c.parts.invariant.takes _ _ _ (takes_stop c.args.name.now c.split_at_feed.result.0.now (parts_of c.parts.rest.now) (slice_split is_newline c.in-Some.after.now) _ _ _ _ _ split (rw c.in-Some-2.is at c.in_ok-stop.ensures))
 
 pub parts-preserved : goal.parts-preserved
 parts-preserved g c =
-    let split = rw c.in-Some.is at c.split_line.ensures.lines in
+    let split = rw c.in-Some.is at c.split_at_feed.ensures.lines in
     record {
       takes = λ next result new later.
           c.parts.invariant.takes next result new
-          (takes_line c.args.name.now c.split_line.result.0.now (parts_of c.parts.rest.now) (slice_split is_newline c.in-Some.after.now) _ _ next result _ _ new split (rw c.in_default-2.is at c.in_ok-stop.ensures) later);
+          (takes_line c.args.name.now c.split_at_feed.result.0.now (parts_of c.parts.rest.now) (slice_split is_newline c.in-Some.after.now) _ _ next result _ _ new split (rw c.in_default-2.is at c.in_ok-stop.ensures) later);
     }
