@@ -35,7 +35,8 @@ def logins():
         out.writelines(lines())
     found, printed, searched = least_in_turn(
         [
-            ["grep", "-c", "Accepted publickey", "log"],
+            # Where nothing is written, grep ends at the first line that it finds.
+            ["sh", "-c", "grep -c 'Accepted publickey' log >counted"],
             [OURS, "-Q", "-l", "-f", "list.krl"],
             [AUDIT, "logins", "-f", "list.krl", "log"],
         ]

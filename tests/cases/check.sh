@@ -188,6 +188,13 @@ run diff --names of-a --names of-b of-two.krl some.krl
 judge 'krl diff prints these lines' "$(differs 'the lines' "${by_names%$'\n'*}"$'\n' "$got_output")"
 checks 'a list that passes, with names' 0 '' --names of-a --superset-of some.krl of-two.krl
 checks 'names, and no list whose names are wanted' 0 '' --names of-a some.krl
+# The lines about keys are those of krl audit without a text.
+signed=ssh-ed25519-cert-v01@openssh.com
+line $signed "$(certificate "$G" "$A" 0000000000000007 eve)" >cert
+of_a="of CA $(fingerprint "$A")"
+checks 'a certificate to be kept, whose CA has a name' 1 "cert:1: revoked: $signed \
+$(fingerprint "$G") by serial 7 $of_a, by key ID \"eve\" $of_a
+keep: cert: 1 of 1 key is revoked, $zeros" --names of-a --keep cert some.krl
 checks 'the objects of what is lost, by names' 1 \
   "{\"condition\":\"openssh\",\"passed\":true,\"list\":\"some.krl\"}
 {\"condition\":\"empty\",\"passed\":true,\"list\":\"some.krl\"}

@@ -1,10 +1,12 @@
 # krl audit -t: the list that texts make, the lines that explain each finding, the reasons that no
-# line gives, and the texts that are refused.
+# line gives, the names of CAs, and the texts that are refused.
 
 program=$krl
 export SOURCE_DATE_EPOCH=0
 g=$(line ssh-ed25519 "$G") a=$(line ssh-ed25519 "$A") b=$(line ssh-ed25519 "$B")
-of_a="of CA $(fingerprint "$A")"
+print_a=$(fingerprint "$A")
+# The words for a CA, which has a fingerprint, or a name where a text gives one.
+of_a="of CA $print_a" of_users='of CA users'
 # hashed SUM BLOB: the digest of the blob, in digits.
 hashed() {
   bytes "$2" | "$1" | cut -d ' ' -f 1
@@ -59,28 +61,28 @@ the SHA-1 of its CA|sha1: $a
 the SHA-1 of its CA|hash: $sha1_of_a
 the SHA-256 of its CA|SHA256: $a # OPS-1
 the SHA-256 of its CA|hash: $(fingerprint "$A")
-serial 7 $of_a|serial: 7 # OPS-1 laptops stolen
-serial 7 $of_a|@users serial: 0x007
-serial 7 $of_a|serial: 5-9
-serial 7 $of_a|serial: 7 - 7
-serial 7 $of_a|SERIAL:1-18446744073709551615
-serial 7 $of_a|until 1970-01-01 @users serial: 7
-serial 7 $of_a|$(signed "$G" "$A" 7 x) of x
-serial 7 $of_a|until 2099-12-31 $(signed "$B" "$A" 7 bob)
+serial 7 $of_users|serial: 7 # OPS-1 laptops stolen
+serial 7 $of_users|@users serial: 0x007
+serial 7 $of_users|serial: 5-9
+serial 7 $of_users|serial: 7 - 7
+serial 7 $of_users|SERIAL:1-18446744073709551615
+serial 7 $of_users|until 1970-01-01 @users serial: 7
+serial 7 $of_users|$(signed "$G" "$A" 7 x) of x
+serial 7 $of_users|until 2099-12-31 $(signed "$B" "$A" 7 bob)
 serial 7 of all CAs|@all serial: 7
 serial 7 of all CAs|@all serial: 6-0x8
-key ID "bob" $of_a|id: bob # OPS-1
-key ID "bob" $of_a|@users ID:bob
-key ID "bob" $of_a|id-hex: 626F62
-key ID "bob" $of_a|$(signed "$G" "$A" 0 bob)
+key ID "bob" $of_users|id: bob # OPS-1
+key ID "bob" $of_users|@users ID:bob
+key ID "bob" $of_users|id-hex: 626F62
+key ID "bob" $of_users|$(signed "$G" "$A" 0 bob)
 key ID "bob" of all CAs|@all id: bob
 key ID "bob" of all CAs|until 1970-01-01 @all id-hex: 626f62
 ROWS
 
 # Several lines, in the order of the text, which is not that of the reasons.
 explains 'all ten reasons' "its key, by its SHA-1, by its SHA-256, by the key of its CA, by the \
-SHA-1 of its CA, by the SHA-256 of its CA, by serial 7 $of_a, by serial 7 of all CAs, by key ID \
-\"bob\" $of_a, by key ID \"bob\" of all CAs" \
+SHA-1 of its CA, by the SHA-256 of its CA, by serial 7 $of_users, by serial 7 of all CAs, by key \
+ID \"bob\" $of_users, by key ID \"bob\" of all CAs" \
   "@users: $a\n@all id: bob\n# c\n@users id: bob\n@all serial: 7\n\n@users serial: 7\nsha256: $a\n\
 sha1: $a\n$g\n$a\nsha256: $b\nsha1: $b\n$b" 2 4 5 7 8 9 11 12 13 14
 explains 'several lines of one reason' "serial 7 $of_a" \
@@ -103,7 +105,7 @@ explains 'lines of another CA' "serial 7 $of_a, by serial 7 of all CAs, by key I
 id: bob\n" \
   5 7 11
 # The names of two CAs, one of which has two.
-explains 'names of CAs' "serial 7 $of_a" \
+explains 'names of CAs' 'serial 7 of CA u' \
   "@users: $a\n@hosts: $g\n@hosts serial: 7\n@users serial: 7\n@u: $a\n@u serial: 1-9\n@U: $b\n\
 @U serial: 7\n" 4 6
 explains 'a last day that is over' "serial 7 $of_a, by key ID \"bob\" of all CAs" \
@@ -191,7 +193,7 @@ ROWS
 printf '# of users\n@users: %s\n@users serial: 1-9 # one\n@all id: bob\n' "$a" >one.txt
 printf '@users id: bob\n\n@hosts: %s\n@hosts serial: 7\n@users serial: 7 # two\n' "$g" >two.txt
 printf 'key: %s\n' "$b" >three.txt
-by_both="by serial 7 $of_a, by key ID \"bob\" $of_a, by key ID \"bob\" of all CAs"
+by_both="by serial 7 $of_users, by key ID \"bob\" $of_users, by key ID \"bob\" of all CAs"
 expect 'two texts, and a name that goes on' 1 "bob:1: $revoked $by_both
 $(cited one.txt 3 4)
 $(cited two.txt 1 5)
@@ -201,8 +203,8 @@ $(cited three.txt 1)
 $(cited one.txt 3 4)
 $(cited two.txt 1 5)
 " "$one_revoked" audit -t three.txt bob -t one.txt -t two.txt
-expect 'one more order' 1 "bob:1: $revoked by its key, by serial 7 $of_a, by key ID \"bob\" of all \
-CAs
+expect 'one more order' 1 "bob:1: $revoked by its key, by serial 7 $of_users, by key ID \"bob\" of \
+all CAs
 $(cited one.txt 3 4)
 $(cited three.txt 1)
 " "$one_revoked" audit -t one.txt -t three.txt bob
@@ -264,7 +266,7 @@ expect 'something is unread' 3 'gone: unread: No such file or directory
 # Beside a list, which alone decides what is revoked. Each reason has a line of a text that gives
 # it.
 reasons=('its key' 'its SHA-1' 'its SHA-256' 'the key of its CA' 'the SHA-1 of its CA'
-  'the SHA-256 of its CA' "serial 7 $of_a" 'serial 7 of all CAs' "key ID \"bob\" $of_a"
+  'the SHA-256 of its CA' 'serial 7 of CA' 'serial 7 of all CAs' 'key ID "bob" of CA'
   'key ID "bob" of all CAs')
 entries=("key: $b # OPS-1" "sha1: $b" "sha256: $b" "$a" "hash: $sha1_of_a" "sha256: $a"
   '@users serial: 5-8' '@all serial: 7' '@users id-hex: 626f62' '@all id: bob')
@@ -281,40 +283,48 @@ bytes "$H" "$(under '' $serial_7 "$id_bob")" "$(under "$A" $serial_7 "$id_bob")"
   05 "$(string "$(string "$(hashed sha256sum "$A")")" "$(string "$(hashed sha256sum "$B")")")" \
   >every.krl
 bytes "$H" "$(under "$A" $serial_7)" >older.krl
-# by REASON..: the reasons of a finding, by their places.
+# by [@NAME] REASON..: the reasons of a finding, by their places, and the name of its CA, if the
+# texts give it one.
 by() {
-  local it all=
-  for it; do all+=", by ${reasons[it]}"; done
+  local it all='' name=$print_a
+  [[ $1 != @* ]] || { name=${1#@} && shift; }
+  for it; do
+    it=${reasons[it]}
+    all+=", by ${it/%of CA/of CA $name}"
+  done
   printf %s "${all:2}"
 }
 # beside NAME LIST REASONS UNNAMED NUMBER..: by the list the certificate is revoked for these
-# reasons, these lines of the text follow, and no line gives the unnamed ones. Reasons are places.
+# reasons, these lines of the text follow, and no line gives the unnamed ones. Reasons are places,
+# the first ones behind the name of the CA, if it has one.
 beside() {
-  local name=$1 list=$2 why=$3 unnamed=$4 wanted
+  local name=$1 list=$2 why=$3 unnamed=$4 ca='' wanted
   shift 4
+  [[ $why != @* ]] || ca=${why%% *}
   # shellcheck disable=SC2086
   wanted="bob:1: $revoked $(by $why)"$'\n'
   [ $# = 0 ] || wanted+=$(cited text "$@")$'\n'
   # shellcheck disable=SC2086
-  [ -z "$unnamed" ] || wanted+="  no line of the texts names it $(by $unnamed)"$'\n'
+  [ -z "$unnamed" ] || wanted+="  no line of the texts names it $(by $ca $unnamed)"$'\n'
   expect "$name" 1 "$wanted" "$one_revoked" audit -f "$list" -t text bob
 }
 all='0 1 2 3 4 5 6 7 8 9'
 { echo "@users: $a" && printf '%s\n' "${entries[@]}"; } >text
-beside 'all reasons, and a line for each' every.krl "$all" '' {2..11}
-beside 'a list that names less than the text' older.krl 6 '' 8
+beside 'all reasons, and a line for each' every.krl "@users $all" '' {2..11}
+beside 'a list that names less than the text' older.krl '@users 6' '' 8
 for it in $all; do
   printf '%s\n' "# c" "@users: $a" "${entries[it]}" "$g" '@users serial: 8' >text
-  beside "nine reasons that no line gives, but ${reasons[it]}" every.krl "$all" "${all/$it/}" 3
+  beside "nine reasons that no line gives, but ${reasons[it]}" every.krl "@users $all" \
+    "${all/$it/}" 3
   { printf '%s\n' "${entries[@]}" | sed "$((it + 1))d" && echo "$g"; } >rest
   { echo "@users: $a" && cat rest; } >text
-  beside "a reason that no line gives: ${reasons[it]}" every.krl "$all" "$it" {2..10}
+  beside "a reason that no line gives: ${reasons[it]}" every.krl "@users $all" "$it" {2..10}
 done
 : >text
 beside 'a text without a line' every.krl "$all" "$all"
 beside 'a text without a line, and one reason' older.krl 6 6
 printf '# %s\nca: %s\n@users: %s\n' "$b" "$a" "$a" >text
-beside 'a text without an entry' every.krl "$all" "$all"
+beside 'a text without an entry' every.krl "@users $all" "$all"
 printf 'until 1969-12-31 @all serial: 7\nca: %s\nuntil 1969-12-31 serial: 7\n' "$a" >text
 beside 'a text that is over' older.krl 6 6
 SOURCE_DATE_EPOCH=-1 beside 'a text that is over, by the clock' older.krl 6 6
@@ -333,11 +343,12 @@ expect 'a text through standard input, beside a list' 1 "bob:1: $revoked by seri
   -:2: serial: 7
 " "$one_revoked" audit -f older.krl -t - bob <<<"ca: $a
 serial: 7"
-expect 'a list through standard input, beside texts' 1 "bob:1: $revoked by serial 7 $of_a
+expect 'a list through standard input, beside texts' 1 "bob:1: $revoked by serial 7 $of_users
 $(cited one.txt 3)
 $(cited two.txt 5)
 " "$one_revoked" audit -t one.txt -f - -t two.txt bob <older.krl
-expect 'texts that explain some reasons each' 1 "bob:1: $revoked $(by $all)
+# shellcheck disable=SC2086
+expect 'texts that explain some reasons each' 1 "bob:1: $revoked $(by @users $all)
 $(cited one.txt 3 4)
 $(cited two.txt 1 5)
   no line of the texts names it $(by 0 1 2 3 4 5 7)
@@ -367,7 +378,7 @@ ssh-ed25519-cert-v01@openssh.com $(fingerprint "$G") by key ID \"a \\\"b\\\"\" $
 " "$one_revoked" audit -f quoted.krl -t three.txt alice
 printf '@users: %s\n@users id: a "b" # "c"\n' "$a" >text
 expect 'a key ID with quotes' 1 "alice:1: revoked: \
-ssh-ed25519-cert-v01@openssh.com $(fingerprint "$G") by key ID \"a \\\"b\\\"\" $of_a
+ssh-ed25519-cert-v01@openssh.com $(fingerprint "$G") by key ID \"a \\\"b\\\"\" $of_users
 $(cited text 2)
 " "$one_revoked" audit -f quoted.krl -t text alice
 signed "$B" "$A" 9 b9 >nine
@@ -388,6 +399,142 @@ $(fingerprint "$B")
 " "krl audit: 1 file, 1 key: 0 revoked in 0 files, 0 unread $of_list"$'\n' \
   audit -a -f older.krl -t three.txt of_b
 
+# The names of CAs. Of the names of a key the first one by its bytes is printed, whichever of them a
+# line has.
+bytes "$H" "$(under "$A" $serial_7 "$id_bob")" >of_a.krl
+while read -r first names <&3; do
+  for it in $names; do echo "@$it: $a"; done >text
+  number=$(($(grep -c '' text) + 1))
+  beside "the names $names" of_a.krl "@$first 6 8" '6 8'
+  echo "@$it serial: 7" >>text
+  beside "a serial number by the last name of $names" of_a.krl "@$first 6 8" 8 $number
+  sed -i "\$s/.*/@${names%% *} id: bob/" text
+  beside "a key ID by the first name of $names" of_a.krl "@$first 6 8" 6 $number
+  echo '@all serial: 7' >>text
+  expect "the list of a text with the names $names" 1 "bob:1: $revoked $(by "@$first" 7 8)
+$(cited text $number $((number + 1)))
+" "$one_revoked" audit -t text bob
+done 3<<ROWS
+user-ca user-ca
+a a b
+a b a
+B a B
+A b a B A1 A
+user user-ca users user
+- _ a A 9 0 . -
+. _ a A 9 0 .
+0 _ a A 9 0
+9 a _ A 9
+A _ a A
+_ a _
+user-ca user_ca userCA user.ca user0ca user-ca
+SHA256 cert-authority SHA256 serial
+ALL all-ca al ALL
+$(printf 'x%.0s' {1..63}) $(printf 'x%.0s' {1..64}) $(printf 'x%.0s' {1..63}) y
+$(printf 'X%.0s' {1..64}) x $(printf 'X%.0s' {1..64})
+ROWS
+# Those of all texts count, also where a text of names has no line that explains, or comes last.
+echo "@users: $a" >names && echo "@by-name: $a" >more_names
+printf 'ca: %s\nserial: 7 # OPS-1\n' "$a" >lines
+printf '@hosts: %s\n@hosts serial: 7\n@all id: bobb\n' "$g" >hosts
+while IFS='|' read -r name texts <&3; do
+  # shellcheck disable=SC2046,SC2086
+  expect "the names of the texts $texts" 1 "bob:1: $revoked $(by $name 6)
+$(cited lines 2)
+" "$one_revoked" audit $(printf -- '-t %s ' $texts) bob
+  # shellcheck disable=SC2046,SC2086
+  expect "the same beside a list: $texts" 1 "bob:1: $revoked $(by $name 6 8)
+$(cited lines 2)
+  no line of the texts names it $(by $name 8)
+" "$one_revoked" audit $(printf -- '-t %s ' $texts) -f of_a.krl bob
+done 3<<'ROWS'
+|lines
+|lines hosts
+|hosts lines
+@users|names lines
+@users|lines names
+@users|names lines names
+@users|lines hosts names
+@users|hosts names lines
+@by-name|more_names lines names
+@by-name|names lines more_names
+@by-name|lines names hosts more_names
+ROWS
+expect 'a name through standard input' 1 "bob:1: $revoked $(by @users 6 8)
+$(cited lines 2)
+  no line of the texts names it $(by @users 8)
+" "$one_revoked" audit -t lines -f of_a.krl -t - bob <names
+printf '@users: %s\n@users serial: 8\n@users id: bobb\n@all id: Bob\n%s\n' "$a" "$g" >text
+beside 'the name of a text that explains nothing' of_a.krl '@users 6 8' '6 8'
+printf '@bob: %s\n@hosts: %s\n@hosts serial: 7\n@hosts id: bob\n' "$b" "$g" >text
+beside 'the names of the certified key and of another CA' of_a.krl '6 8' '6 8'
+printf '@bob: %s\n@hosts: %s\n@all serial: 1-9\n' "$b" "$g" >text
+beside 'the names of others, and a reason of all CAs' every.krl "$all" '0 1 2 3 4 5 6 8 9' 3
+printf '@users: %s\n@users serial: 7\n' "$a" >text
+beside 'the name of a CA, and reasons of all CAs' every.krl "@users $all" '0 1 2 3 4 5 7 8 9' 2
+# The name lasts longer than an entry.
+printf '%s\n' "@users: $a" 'until 1969-12-31 @users serial: 7' 'until 1970-01-01 @users id: bob' \
+  >text
+beside 'the name of the CA of a line that is over' of_a.krl '@users 6 8' 6 3
+SOURCE_DATE_EPOCH=86400 beside 'the same on the day after' of_a.krl '@users 6 8' '6 8'
+# Reasons about a key have no name, and a finding has the fingerprint of its key.
+printf '@users: %s\n@bob: %s\n%s\n%s\n' "$a" "$b" "$a" "$b" >text
+expect 'reasons about keys that have names' 1 "bob:1: $revoked by its key, by the key of its CA
+$(cited text 3 4)
+" "$one_revoked" audit -t text bob
+echo "$a" >of_a
+expect 'a CA that has a name' 1 "of_a:1: revoked: ssh-ed25519 $print_a by its key
+  no line of the texts names it by its key
+" "${one_revoked/$of_list/(plain list)}" audit -f of_a -t names of_a
+expect 'a certificate by its own key, which has a name' 1 "own:1: revoked: \
+ssh-ed25519-cert-v01@openssh.com $print_a by serial 7 of CA users
+  no line of the texts names it by serial 7 of CA users
+" "$one_revoked" audit -f older.krl -t names own
+# Each finding has the name of its own CA, or its fingerprint.
+signed "$B" "$G" 7 bob >by_g && cat bob by_g bob >both && echo "@of-g: $g" >name_of_g
+bytes "$H" "$(under "$A" $serial_7)" "$(under "$G" $serial_7)" >two.krl
+# of PLACE CA: a finding that no line explains.
+of() {
+  printf '%s: %s by serial 7 of CA %s\n' "$1" "$revoked" "$2"
+  printf '  no line of the texts names it by serial 7 of CA %s\n' "$2"
+}
+while read -r name_a name_g texts <&3; do
+  # shellcheck disable=SC2046,SC2086
+  expect "the names of two CAs by the texts $texts" 1 "$(
+    of bob:1 $name_a && of by_g:1 $name_g
+    of both:1 $name_a && of both:2 $name_g && of both:3 $name_a)
+" "krl audit: 3 files, 5 keys: 5 revoked in 3 files, 0 unread $of_list"$'\n' \
+    audit -f two.krl $(printf -- '-t %s ' $texts) bob by_g both
+done 3<<ROWS
+$print_a $(fingerprint "$G") three.txt
+users $(fingerprint "$G") names
+$print_a of-g name_of_g
+users of-g names name_of_g
+users of-g name_of_g names
+by-name of-g names name_of_g more_names
+ROWS
+printf '@users: %s\n@users serial: 1-22\n' "$a" >text
+expect 'the name of a CA in many findings' 1 "$(
+  for ((i = 1; i <= 20; i++)); do
+    echo "many:$i: $revoked by serial $i of CA users"
+    cited text 2
+  done)
+many: revoked: and 2 more lines are revoked
+bob:1: $revoked by serial 7 of CA users
+$(cited text 2)
+" "krl audit: 2 files, 23 keys: 23 revoked in 2 files, 0 unread $of_list"$'\n' \
+  audit -t text many bob
+# CAs of other kinds, whose certificates OpenSSH signs.
+echo "$b me" >b.pub
+for it in ecdsa rsa; do
+  "$openssh" -q -t $it -N '' -C "of $it" -f ca-$it && "$openssh" -q -s ca-$it -I bob -z 7 b.pub
+  printf '@by-%s: %s\n' a "$a" $it "$(<ca-$it.pub)" >text
+  echo "@by-$it serial: 7" >>text
+  expect "the name of a CA of the kind $it" 1 "b-cert.pub:1: $revoked by serial 7 of CA by-$it: me
+$(cited text 3)
+" "$one_revoked" audit -t text b-cert.pub
+done
+
 # JSON: the lines of each finding, and the reasons that no line gives.
 key_b="\"type\":\"ssh-ed25519\",\"fingerprint\":\"$(fingerprint "$B")\""
 cert_b="\"type\":\"ssh-ed25519-cert-v01@openssh.com\",\"fingerprint\":\"$(fingerprint "$B")\""
@@ -396,14 +543,19 @@ cert_b=${cert_b/\"A\"/\"$(fingerprint "$A")\"}
 # The reasons as objects, by their places.
 objects=('{"by":"key"}' '{"by":"sha1"}' '{"by":"sha256"}' '{"by":"authority","of":"key"}'
   '{"by":"authority","of":"sha1"}' '{"by":"authority","of":"sha256"}'
-  "{\"by\":\"serial\",\"serial\":\"7\",\"authority\":\"$(fingerprint "$A")\"}"
+  "{\"by\":\"serial\",\"serial\":\"7\",\"authority\":\"$print_a\"}"
   '{"by":"serial","serial":"7","authority":"all"}'
-  "{\"by\":\"id\",\"id\":\"bob\",\"authority\":\"$(fingerprint "$A")\"}"
+  "{\"by\":\"id\",\"id\":\"bob\",\"authority\":\"$print_a\"}"
   '{"by":"id","id":"bob","authority":"all"}')
-# array_of REASON..
+# array_of [@NAME] REASON..: as by.
 array_of() {
-  local it all=
-  for it; do all+=",${objects[it]}"; done
+  local it all='' name=
+  [[ ${1:-} != @* ]] || { name=",\"name\":\"${1#@}\"}" && shift; }
+  for it; do
+    it=${objects[it]}
+    [ -z "$name" ] || it=${it/%\"$print_a\"\}/\"$print_a\"$name}
+    all+=,$it
+  done
   printf '[%s]' "${all:1}"
 }
 # done_by LIST FILE FILES KEYS REVOKED UNREAD: the last object, where the bytes of the list are
@@ -423,7 +575,7 @@ judge 'where the lines are in the object' "$(differs 'its end' \
   "\"reasons\":$(array_of 0),\"entries\":[$entry],\"unnamed\":[]}" \
   "$(sed -n '1s/.*\("reasons".*\)/\1/p' "$scratch/output")")"
 expect_objects 'an object of several texts, beside a list' 1 \
-  "{\"file\":\"bob\",\"line\":1,\"status\":\"revoked\",$cert_b,\"reasons\":$(array_of $all),\
+  "{\"file\":\"bob\",\"line\":1,\"status\":\"revoked\",$cert_b,\"reasons\":$(array_of @users $all),\
 \"entries\":[{\"file\":\"one.txt\",\"line\":3,\"text\":\"@users serial: 1-9 # one\"},\
 {\"file\":\"one.txt\",\"line\":4,\"text\":\"@all id: bob\"},\
 {\"file\":\"two.txt\",\"line\":1,\"text\":\"@users id: bob\"},\
@@ -479,7 +631,58 @@ expect_objects 'at most 20 objects with lines' 1 "$(
 {\"file\":\"keys_of_b\",\"status\":\"revoked\",\"count\":1}
 $(done_by three.txt of_b.krl 1 21 21 0)" -t three.txt keys_of_b
 
-# The list of texts is the one that krl make makes of them: the findings are the same.
+# The object of a reason has the name of the CA behind its fingerprint. That of the certificate has
+# none.
+# named NAME REASONS UNNAMED ENTRIES WORD..: the object of the certificate by the list of_a.krl and
+# the texts that the words name. The entries are objects.
+named() {
+  # shellcheck disable=SC2086
+  expect_objects "$1" 1 "{\"file\":\"bob\",\"line\":1,\"status\":\"revoked\",$cert_b,\
+\"reasons\":$(array_of $2),\"entries\":[$4],\"unnamed\":$(array_of $3)}
+$(done_by of_a.krl of_a.krl 1 1 1 0)" -f of_a.krl "${@:5}" bob
+}
+# entry_of TEXT NUMBER: the object of a line of a text.
+entry_of() {
+  printf '{"file":"%s","line":%d,"text":"%s"}' "$1" "$2" "$(sed -n "${2}p" "$1")"
+}
+named 'an object with the name of a CA' '@users 6 8' '@users 6 8' '' -t names
+reasons_of_a="[{\"by\":\"serial\",\"serial\":\"7\",\"authority\":\"$print_a\",\"name\":\"users\"},\
+{\"by\":\"id\",\"id\":\"bob\",\"authority\":\"$print_a\",\"name\":\"users\"}]"
+judge 'where the name is in the object' "$(differs 'its end' \
+  "$print_a\"},\"reasons\":$reasons_of_a,\"entries\":[],\"unnamed\":$reasons_of_a}" \
+  "$(sed -n '1s/.*"authority":"\(.*"reasons".*\)/\1/p' "$scratch/output")")"
+printf '@users: %s\n@users serial: 7\n@users id: bob\n' "$a" >text
+named 'a name, and a line for each reason' '@users 6 8' '' \
+  "$(entry_of text 2),$(entry_of text 3)" -t text
+named 'a name of the last text' '@users 6 8' '@users 8' "$(entry_of lines 2)" -t lines -t names
+named 'the first of two names by its bytes' '@by-name 6 8' '@by-name 6 8' '' \
+  -t names -t more_names
+named 'the name of another CA' '6 8' '6 8' '' -t hosts
+named 'no name' '6 8' '8' "$(entry_of lines 2)" -t lines
+printf '%s\n' "@users: $a" 'until 1969-12-31 @users serial: 7' '@users id: bobb' >text
+named 'the name of the CA of a line that is over' '@users 6 8' '@users 6 8' '' -t text
+# shellcheck disable=SC2086
+expect_objects 'a name, and reasons of all CAs and of keys' 1 \
+  "{\"file\":\"bob\",\"line\":1,\"status\":\"revoked\",$cert_b,\"reasons\":$(array_of @users $all),\
+\"entries\":[],\"unnamed\":$(array_of @users $all)}
+$(done_by every.krl every.krl 1 1 1 0)" -f every.krl -t names bob
+reason_of_g=${objects[6]/"$print_a"/"$(fingerprint "$G")"}
+expect_objects 'a CA with a name and one without' 1 \
+  "{\"file\":\"by_g\",\"line\":1,\"status\":\"revoked\",${cert_b/"$print_a"/"$(fingerprint "$G")"},\
+\"reasons\":[$reason_of_g],\"entries\":[],\"unnamed\":[$reason_of_g]}
+{\"file\":\"bob\",\"line\":1,\"status\":\"revoked\",$cert_b,\"reasons\":$(array_of @users 6),\
+\"entries\":[],\"unnamed\":$(array_of @users 6)}
+$(done_by two.krl two.krl 2 2 2 0)" -f two.krl -t names by_g bob
+signed "$B" "$A" 7 $'\xff"' >odd && bytes "$H" "$(under "$A" "23$(string "$(words $'\xff"')")")" \
+  >odd.krl
+of_odd="[{\"by\":\"id\",\"id_base64\":\"/yI=\",\"authority\":\"$print_a\",\"name\":\"users\"}]"
+expect_objects 'a name behind a key ID that is not UTF-8' 1 \
+  "{\"file\":\"odd\",\"line\":1,\"status\":\"revoked\",\
+${cert_b/'"id":"bob"'/'"id_base64":"/yI="'},\"reasons\":$of_odd,\"entries\":[],\"unnamed\":$of_odd}
+$(done_by odd.krl odd.krl 1 1 1 0)" -f odd.krl -t names odd
+
+# The list of texts is the one that krl make makes of them: the findings are the same, but for the
+# names of CAs, which a list does not have.
 signed "$G" "$G" 300 g >of_g && signed "$A" "$G" 7 bob me >of_a_by_g
 cp bob of_g of_a_by_g home/none
 for words in one.txt three.txt 'one.txt two.txt three.txt' 'three.txt one.txt two.txt'; do
@@ -495,6 +698,8 @@ for words in one.txt three.txt 'one.txt two.txt three.txt' 'three.txt one.txt tw
       differs 'exit status' 1 "$got_status"
       asks 0 cmp said "$scratch/error"
       sed -e '/^  /d' -e 's/,"entries":.*}$/}/' \
+        -e "s|of CA users|$of_a|g; s|of CA hosts|of CA $(fingerprint "$G")|g" \
+        -e 's/,"name":"\(users\|hosts\)"//g' \
         -e 's/"list":{"file":"[^"]*"/"list":{"file":"made.krl"/' "$scratch/output" >by_texts
       asks 0 diff by_list by_texts
       [ "$(wc -l <by_list)" -gt 20 ] || echo '  there are too few'
@@ -670,18 +875,28 @@ done
 setting=()
 printf '%s\n' "@users: $a" $'@users serial: 7 # : revoked: \e[31mred\e[0m' '@all id: bob # : ok: ' \
   >$'\e[7mtext'
-colours="bob:1: $revoked by serial 7 $of_a, by key ID \"bob\" of all CAs"
+colours="bob:1: $revoked by serial 7 $of_users, by key ID \"bob\" of all CAs"
 explained='  \x1b[7mtext:2: @users serial: 7 # : revoked: \x1b[31mred\x1b[0m
   \x1b[7mtext:3: @all id: bob # : ok: '
 expect_terminal 'colours of a finding, and none of the lines that explain it' 1 1 \
   "$(painted "$colours")
 $explained" "${one_revoked%$'\n'}" audit -t $'\e[7mtext' bob
-colours="bob:1: $revoked $(by $all)"
+# shellcheck disable=SC2086
+colours="bob:1: $revoked $(by @users $all)"
 explained+="
-  no line of the texts names it $(by 0 1 2 3 4 5 7 8)"
+  no line of the texts names it $(by @users 0 1 2 3 4 5 7 8)"
 expect_terminal 'no colour of the reasons that no line gives' 12 1 "$(painted "$colours")
 $explained
 ${one_revoked%$'\n'}" '' audit -f every.krl -t $'\e[7mtext' bob
+# No name of a CA is in colour, whatever it is.
+signed "$B" "$A" 7 bob ': revoked: me' >coloured
+for it in revoked ok unread; do
+  echo "@$it: $a" >text
+  expect_terminal "no colour of a CA with the name $it" 1 1 \
+    "$(painted "coloured:1: $revoked $(by @$it 6 8): : revoked: me")
+  no line of the texts names it $(by @$it 6 8)" "${one_revoked%$'\n'}" \
+    audit -f of_a.krl -t text coloured
+done
 setting=(NO_COLOR=1)
 expect_terminal 'no colour with NO_COLOR' 1 1 "$colours
 $explained" "${one_revoked%$'\n'}" audit -f every.krl -t $'\e[7mtext' bob

@@ -1,4 +1,5 @@
-# krl logins: each kind of line, of list and of file, statuses, options, and outputs that fail.
+# krl logins: each kind of line, of list and of file, the names of CAs, statuses, options, and
+# outputs that fail.
 
 keygen=$program
 program=$krl
@@ -264,24 +265,37 @@ logins 'objects of logins that are not revoked, and of lines that are not read' 
 # Each reason, by the line of a text among lines that give none, and by the list of this text.
 others="@users: $a\n@hosts: $g\n$g b\n@users serial: 8\n@hosts serial: 7\n@users id: bobb\n"
 others+="@hosts id: bob\n@all serial: 1-6\n@all id: Bob\nsha256: $g\nca: $a of b # serial: 7\n"
-of_a="of CA $print_a"
-echo '# a comment' >none
+of_a="of CA $print_a" of_users='of CA users'
+echo '# a comment' >none && echo "@users: $a" >names
+summary="krl logins: 1 file, 1 login: 1 revoked, 0 unread $of_list"$'\n'
 while IFS='|' read -r reason fields entry <&3; do
   printf "$others$entry\n@all serial: 8\n# $b\n" >text
   "$program" make -q --replace -z 1 -f one.krl text
   finding="bob:1: ${revoked% by} $reason: $from (ID bob)"
-  summary="krl logins: 1 file, 1 login: 1 revoked, 0 unread $of_list"$'\n'
+  by_name=${reason/"$of_a"/"$of_users"} named=${finding/"$of_a"/"$of_users"}
+  fields_named=${fields/%"$print_a\""/"$print_a\",\"name\":\"users\""}
   expect "$entry: $reason" 1 "$finding"$'\n' "$summary" logins -f one.krl bob
-  expect "its line: $entry" 1 "$finding
+  expect "its line: $entry" 1 "$named
   text:12: $entry
 " "$summary" logins -t text bob
   expect "no line: $entry" 1 "$finding
   no line of the texts names it $reason
 " "$summary" logins -t none -f one.krl bob
+  expect "no line, and a name: $entry" 1 "$named
+  no line of the texts names it $by_name
+" "$summary" logins -t names -f one.krl bob
   run logins --json -f one.krl -t text bob
-  judge "the object: $entry" "$(differs 'the reasons' "\"reasons\":[{$fields}],\"entries\":[\
-{\"file\":\"text\",\"line\":12,\"text\":\"$entry\"}],\"unnamed\":[]}" \
+  judge "the object: $entry" "$(differs 'the reasons' "\"reasons\":[{$fields_named}],\
+\"entries\":[{\"file\":\"text\",\"line\":12,\"text\":\"$entry\"}],\"unnamed\":[]}" \
     "$(grep -o '"reasons":.*' <<<"$got_output")")"
+  for it in none names; do
+    [ $it = none ] || fields=$fields_named
+    run logins --json -f one.krl -t $it bob
+    judge "its object by the text $it: $entry" "$(differs 'the certificate and the reasons' \
+      "\"certificate\":{\"serial\":\"7\",\"id\":\"bob\",\"authority\":\"$print_a\"},\
+\"reasons\":[{$fields}],\"entries\":[],\"unnamed\":[{$fields}]}" \
+      "$(grep -o '"certificate":.*' <<<"$got_output")")"
+  done
 done 3<<ROWS
 by its key|"by":"key"|$b of bob # OPS-1
 by its key|"by":"key"|key-blob: $(bytes "$B" | base64 -w0)
@@ -298,11 +312,103 @@ ROWS
 # All reasons at once, in their order.
 printf '%s\n' '@all id: bob' "@users: $a" '@all serial: 7' '@users id: bob' '@users serial: 7' \
   "$a" "sha256: $a" "sha256: $b" "$b" '@users serial: 8' >text
-all="its key, by its SHA-256, by the key of its CA, by the SHA-256 of its CA, by serial 7 $of_a, \
-by serial 7 of all CAs, by key ID \"bob\" $of_a, by key ID \"bob\" of all CAs"
+all="its key, by its SHA-256, by the key of its CA, by the SHA-256 of its CA, by serial 7 \
+$of_users, by serial 7 of all CAs, by key ID \"bob\" $of_users, by key ID \"bob\" of all CAs"
 expect 'all reasons' 1 "bob:1: $revoked $all: $from (ID bob)
 $(for it in 1 3 4 5 6 7 8 9; do sed -n "s/^/  text:$it: /; ${it}p" text; done)
-" "krl logins: 1 file, 1 login: 1 revoked, 0 unread $of_list"$'\n' logins -t text bob
+" "$summary" logins -t text bob
+
+# The names of CAs, by their fingerprints. Of the names of a key the first one by its bytes is
+# printed, and those of all texts count, in any order.
+list_of of_a.krl "ca: $a\nserial: 7\nid: bob"
+# unnamed PLACE CA: a login by a certificate of this CA that no line explains.
+unnamed() {
+  local reasons="serial 7 of CA $2, by key ID \"bob\" of CA $2"
+  printf '%s: %s %s: %s (ID bob)\n' "$1" "$revoked" "$reasons" "$from"
+  printf '  no line of the texts names it by %s\n' "$reasons"
+}
+while read -r first given <&3; do
+  for it in $given; do echo "@$it: $a"; done >text
+  expect "the names $given" 1 "$(unnamed bob:1 "$first")
+" "$summary" logins -f of_a.krl -t text bob
+  number=$(($(grep -c '' text) + 1))
+  echo "@$it serial: 7" >>text
+  expect "the list of a text with the names $given" 1 "bob:1: $revoked serial 7 of CA $first: \
+$from (ID bob)
+  text:$number: @$it serial: 7
+" "$summary" logins -t text bob
+done 3<<ROWS
+user-ca user-ca
+a b a
+B a B
+user user-ca users user
+- _ a A 9 0 . -
+. _ a A 9 0 .
+0 _ a A 9 0
+9 a _ A 9
+A _ a A
+_ a _
+SHA256 cert-authority SHA256 serial
+$(letters 63) $(letters 64) $(letters 63) y
+ROWS
+echo "@by-name: $a" >more && echo "@of-b: $b" >names_of_b && echo "@hosts: $g" >names_of_g
+printf 'ca: %s\nserial: 7\n' "$a" >lines
+while IFS='|' read -r name texts <&3; do
+  # shellcheck disable=SC2046,SC2086
+  expect "the names of the texts $texts" 1 "bob:1: $revoked serial 7 of CA $name: $from (ID bob)
+  lines:2: serial: 7
+" "$summary" logins $(printf -- '-t %s ' $texts) bob
+done 3<<ROWS
+$print_a|lines
+$print_a|lines names_of_b
+users|names lines
+users|lines names
+users|names_of_b lines names
+by-name|more lines names
+by-name|names lines more
+ROWS
+expect 'a name through standard input' 1 "$(unnamed bob:1 users)
+" "$summary" logins -f of_a.krl -t none -t - bob <names
+expect 'the names of the certified key and of another CA' 1 "$(unnamed bob:1 "$print_a")
+" "$summary" logins -f of_a.krl -t names_of_b -t names_of_g bob
+printf '@users: %s\nuntil 1969-12-31 @users serial: 7\n@users id: bobb\n' "$a" >over
+expect 'the name of the CA of a line that is over' 1 "$(unnamed bob:1 users)
+" "$summary" logins -f of_a.krl -t over bob
+# Each login has the name of its own CA, or its fingerprint, whatever is in its key ID.
+list_of two.krl "ca: $a\nserial: 7\nid: bob\nca: $b\nserial: 7\nid: bob"
+echo "$(by_cert bob 7 "$print_b")" >by_b && cat bob by_b bob >both
+while read -r name_a name_b texts <&3; do
+  # shellcheck disable=SC2046,SC2086
+  expect "the names of two CAs by the texts $texts" 1 "$(
+    unnamed bob:1 $name_a && unnamed by_b:1 $name_b
+    unnamed both:1 $name_a && unnamed both:2 $name_b && unnamed both:3 $name_a)
+" "krl logins: 3 files, 5 logins: 5 revoked, 0 unread $of_list"$'\n' \
+    logins -f two.krl $(printf -- '-t %s ' $texts) bob by_b both
+done 3<<ROWS
+$print_a $print_b none
+users $print_b names
+$print_a of-b names_of_b
+users of-b names names_of_b
+by-name of-b names_of_b names more
+ROWS
+run logins --json -f two.krl -t names -t more by_b bob
+judge 'the objects of a CA with two names and of one without' "$(
+  for it in "$print_b\"" "$print_a\",\"name\":\"by-name\""; do
+    it="[{\"by\":\"serial\",\"serial\":\"7\",\"authority\":\"$it},\
+{\"by\":\"id\",\"id\":\"bob\",\"authority\":\"$it}]"
+    echo "\"reasons\":$it,\"entries\":[],\"unnamed\":$it}"
+  done >wanted
+  asks 1 diff wanted <(grep -o '"reasons":.*' <<<"$got_output")
+)"
+echo "$(by_cert "x (serial 7) CA ED25519 $print_b")" >log
+expect 'the CA of a group in the key ID' 1 "log:1: $revoked serial 7 of CA users: $from (ID x \
+(serial 7) CA ED25519 $print_b)
+  no line of the texts names it by serial 7 of CA users
+" "$summary" logins -f two.krl -t names -t names_of_b log
+printf '@users: %s\n%s\n' "$a" "$a" >text
+expect 'reasons about keys that have names' 1 "bob:1: $revoked the key of its CA: $from (ID bob)
+  text:2: $a
+" "$summary" logins -t text -t names_of_b bob
 # Serial numbers in a list, in a range and in a bitmap, of OpenSSH's making and of the program's.
 echo "$a" >a.pub
 seq -f 'serial: %g' 1 2 299 >bitmap
@@ -549,6 +655,11 @@ plain='\x1b[7mlog:1: '"${by_g/root/'a:ok:\x1b[31m'}
 summary="krl logins: 1 file, 2 logins: 1 revoked, 1 unread $of_list"
 words=(logins -a -f r.krl -t text $'\e[7mlog')
 expect_terminal 'colours at a terminal' 1 1 "$(painted "$plain")" "$summary" "${words[@]}"
+for it in revoked ok unread; do
+  echo "@$it: $a" >names
+  expect_terminal "no colour of a CA with the name $it" 1 1 "$(painted "$(unnamed bob:1 $it)")" \
+    "krl logins: 1 file, 1 login: 1 revoked, 0 unread $of_list" logins -f of_a.krl -t names bob
+done
 expect_terminal 'no colour on standard error' 2 1 "$summary" "$plain" "${words[@]}"
 setting=(NO_COLOR=1)
 expect_terminal 'no colour with NO_COLOR' 1 1 "$plain" "$summary" "${words[@]}"

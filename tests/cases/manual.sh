@@ -25,7 +25,10 @@ judge 'the manual page of krl and the README have the options of its help' \
 cp -r "$top/demo" demo && cd demo || exit 1
 transcript 'the examples of the manual page' \
   < <(manual_blocks | awk 'BEGIN { RS = "\f\n"; ORS = "" } /^\$/')
-# So is the one of krl that reads the log of this folder.
-transcript 'the example of krl logins' \
-  < <(manual_blocks krl.1 | awk 'BEGIN { RS = "\f\n"; ORS = "" } /^\$/ && /\$ krl logins /')
+# So are those of krl that have a text or a log of this folder.
+for it in audit logins; do
+  rm -f register.krl
+  transcript "the example of krl $it with a text" < <(manual_blocks krl.1 |
+    awk -v task=$it 'BEGIN { RS = "\f\n"; ORS = "" } /^\$/ && $0 ~ "[$] krl " task " .* -t "')
+done
 cd ..

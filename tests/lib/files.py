@@ -130,6 +130,15 @@ def whole_text():
     )
 
 
+def log():
+    """What sshd logs of a login by a key, and of one by a certificate."""
+    prints = [base64.b64encode(hashlib.sha256(it).digest()) for it in (OTHER, KEY, AUTHORITY)]
+    prints = ["SHA256:" + it.decode().rstrip("=") for it in prints]
+    login = "Accepted publickey for root from 192.0.2.7 port 4242 ssh2: ED25519%s\n"
+    certificate = "-CERT %s ID a (serial 7) CA ED25519 %s" % tuple(prints[1:])
+    return login % (" " + prints[0]) + login % certificate
+
+
 def scattered(count):
     """The first odd numbers, no two in one interval, the lowest and the highest in turn."""
     rising = range(1, 2 * count, 2)
@@ -166,10 +175,14 @@ def contents():
         "whole.txt": whole_text(),
         "more.txt": "@users serial: 7 # OPS-2\n",
         "wrong.txt": whole_text() + "@users serial: 9-7\n",
+        "auth.log": log(),
     }
     bytes_of = {
         "key.krl": HEADER + section(2, string(KEY)),
         "whole.krl": whole_list(),
+        "logins.krl": HEADER
+        + certificates(AUTHORITY, serials(7), ids("a"))
+        + section(2, string(OTHER)),
         "cut.krl": whole_list()[:-3],
         "one.krl": of_all(span(1, 1)),
         "thousand.krl": of_all(span(1, 1000)),

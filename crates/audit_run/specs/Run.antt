@@ -26,7 +26,7 @@ use Rattle.krl_audit.specs.declared.judge.Shown.{Shown}
 use Rattle.krl_openssh.specs.Comparable.{IsIncomparable}
 use Rattle.krl_openssh.specs.declared.authorities.Incomparable.{Incomparable}
 use Rattle.krl_format.specs.Krl.{SpelledSection, Spells}
-use Rattle.text_index.specs.NamingLines.{NamingLine}
+use Rattle.text_index.specs.NamingLines.{Register}
 use Rattle.krl_format.specs.declared.header.Header.{Header}
 use Rattle.audit_run.specs.Fact.{Fact}
 use Rattle.audit_run.specs.Named.{AreNamed, IsBroken, IsOnNames}
@@ -186,7 +186,7 @@ pub record EndsAuditBy (Knows : Fact → Type 0) (order : Order) (queried : Quer
   pub summary_is : summary ≡ summary_unless fault (summary_of tally queried)
   pub ends : (canaries : Option (List Entry)) → MeanCanaries order.canaries canaries
       → (entries : List Entry) → Means queried.list.now entries
-      → (texts : Option (List NamingLine)) → AreIndexed order.texts texts
+      → (texts : Option Register) → AreIndexed order.texts texts
       → (stop : Option RunFault) × (run : List Item)
       × (IsAudit Knows order queried readers (answers_but canaries entries texts) nothing_tallied
       tally stop run

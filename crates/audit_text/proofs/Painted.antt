@@ -37,7 +37,7 @@ use Rattle.krl_entries.specs.declared.reasons.Reasons.{Reasons}
 use Rattle.audit_text.specs.Colour.{HasNoEscape, IsCount, IsPainted, in_colour, painted, verdict_word, word_text}
 use Rattle.audit_text.specs.More.{are_more, kind_mark, kind_word, more_line, more_words}
 use Rattle.audit_text.specs.Answer.{Answer, HaveNumbers}
-use Rattle.audit_text.specs.Print.{print_by}
+use Rattle.audit_text.specs.Print.{Spelled, authority_words, print_by, spelled_by}
 use Rattle.audit_text.specs.Text.{comment_words, entry_line, explained_if, explained_text, key_line, key_text, key_words, unnamed_line, location_text, of_authority, reason_parts, reason_words, reasons_text, type_of, unread_line}
 use Rattle.line_pieces.specs.Visible.{visible}
 use Rattle.text_index.specs.Explaining.{Explained}
@@ -102,50 +102,55 @@ print_free : (by : KeysBy) (key : List ℕ) → HasNoEscape (print_by by key)
 print_free Blob key = fingerprint_free key
 print_free Fingerprint key = printed_free key
 
-authority_free : (by : KeysBy) (authority : List ℕ) → HasNoEscape (of_authority by authority)
-authority_free by authority = free_append (codes " of CA ") (print_by by authority) refl (print_free by authority)
+words_free : (by : KeysBy) (key : List ℕ) (name : Option (List ℕ)) → HasNoEscape (authority_words by key name)
+words_free by key None = print_free by key
+words_free by key (Some name) = visible_free false name
+
+authority_free : (spelled : Spelled) (authority : List ℕ) → HasNoEscape (of_authority spelled authority)
+authority_free spelled authority =
+    free_append (codes " of CA ") (authority_words spelled.by authority spelled.authority) refl (words_free spelled.by authority spelled.authority)
 
 -- the serial number of a certificate has eight bytes
 abbrev IsSmall : Option CertNames → Type 0
 IsSmall None = Unit {0}
 IsSmall (Some cert) = cert.serial < 2 ^ 64
 
-reason_free : (by : KeysBy) (reason : Reason) (cert : Option CertNames) → IsSmall cert → HasNoEscape (reason_words by reason cert)
-reason_free by reasons.Key cert small = refl
-reason_free by reasons.KeySha1 cert small = refl
-reason_free by reasons.KeySha256 cert small = refl
-reason_free by reason None small = none reason
+reason_free : (spelled : Spelled) (reason : Reason) (cert : Option CertNames) → IsSmall cert → HasNoEscape (reason_words spelled reason cert)
+reason_free spelled reasons.Key cert small = refl
+reason_free spelled reasons.KeySha1 cert small = refl
+reason_free spelled reasons.KeySha256 cert small = refl
+reason_free spelled reason None small = none reason
   where
-    none : (reason : Reason) → HasNoEscape (reason_words by reason None)
+    none : (reason : Reason) → HasNoEscape (reason_words spelled reason None)
     none reasons.Key = refl
     none reasons.KeySha1 = refl
     none reasons.KeySha256 = refl
     none other = refl
-reason_free by reasons.Authority (Some cert) small = refl
-reason_free by reasons.AuthoritySha1 (Some cert) small = refl
-reason_free by reasons.AuthoritySha256 (Some cert) small = refl
-reason_free by reasons.Serial (Some cert) small =
-    three_free (codes ", by serial ") (decimal cert.serial) (of_authority by cert.authority) refl (decimal_free cert.serial small) (authority_free by cert.authority)
-reason_free by reasons.SerialOfAll (Some cert) small =
+reason_free spelled reasons.Authority (Some cert) small = refl
+reason_free spelled reasons.AuthoritySha1 (Some cert) small = refl
+reason_free spelled reasons.AuthoritySha256 (Some cert) small = refl
+reason_free spelled reasons.Serial (Some cert) small =
+    three_free (codes ", by serial ") (decimal cert.serial) (of_authority spelled cert.authority) refl (decimal_free cert.serial small) (authority_free spelled cert.authority)
+reason_free spelled reasons.SerialOfAll (Some cert) small =
     three_free (codes ", by serial ") (decimal cert.serial) (codes " of all CAs") refl (decimal_free cert.serial small) refl
-reason_free by reasons.KeyId (Some cert) small =
-    three_free (codes ", by key ID \"") (visible true cert.key_id) (codes "\"" ++ of_authority by cert.authority) refl (visible_free true cert.key_id)
-    (free_append (codes "\"") (of_authority by cert.authority) refl (authority_free by cert.authority))
-reason_free by reasons.KeyIdOfAll (Some cert) small =
+reason_free spelled reasons.KeyId (Some cert) small =
+    three_free (codes ", by key ID \"") (visible true cert.key_id) (codes "\"" ++ of_authority spelled cert.authority) refl (visible_free true cert.key_id)
+    (free_append (codes "\"") (of_authority spelled cert.authority) refl (authority_free spelled cert.authority))
+reason_free spelled reasons.KeyIdOfAll (Some cert) small =
     three_free (codes ", by key ID \"") (visible true cert.key_id) (codes "\" of all CAs") refl (visible_free true cert.key_id) refl
 
 if_free : (said : Bool) (words : List ℕ) → HasNoEscape words → HasNoEscape (if said then words else [])
 if_free true words free = free
 if_free false words free = refl
 
-parts_free : (by : KeysBy) (asked : Subject) (all : Reasons) → IsSmall asked.cert → (few : List Reason) → HasNoEscape (flat_map (λ reason. if has_reason all reason then reason_words by reason asked.cert else []) few)
-parts_free by asked all small [] = refl
-parts_free by asked all small (reason ∷ few) =
-    free_append (if has_reason all reason then reason_words by reason asked.cert else []) (flat_map (λ reason. if has_reason all reason then reason_words by reason asked.cert else []) few)
-    (if_free (has_reason all reason) (reason_words by reason asked.cert) (reason_free by reason asked.cert small)) (parts_free by asked all small few)
+parts_free : (spelled : Spelled) (asked : Subject) (all : Reasons) → IsSmall asked.cert → (few : List Reason) → HasNoEscape (flat_map (λ reason. if has_reason all reason then reason_words spelled reason asked.cert else []) few)
+parts_free spelled asked all small [] = refl
+parts_free spelled asked all small (reason ∷ few) =
+    free_append (if has_reason all reason then reason_words spelled reason asked.cert else []) (flat_map (λ reason. if has_reason all reason then reason_words spelled reason asked.cert else []) few)
+    (if_free (has_reason all reason) (reason_words spelled reason asked.cert) (reason_free spelled reason asked.cert small)) (parts_free spelled asked all small few)
 
-reasons_free : (by : KeysBy) (asked : Subject) (all : Reasons) → IsSmall asked.cert → HasNoEscape (reasons_text by asked all)
-reasons_free by asked all small = free_drop (reason_parts by asked all) (parts_free by asked all small every_reason)
+reasons_free : (spelled : Spelled) (asked : Subject) (all : Reasons) → IsSmall asked.cert → HasNoEscape (reasons_text spelled asked all)
+reasons_free spelled asked all small = free_drop (reason_parts spelled asked all) (parts_free spelled asked all small every_reason)
 
 -- ---- the lines that explain
 
@@ -158,15 +163,16 @@ entries_free : (lines : List Line) → AllByRecursion (λ line. line.number < 2 
 entries_free [] small = refl
 entries_free (line ∷ lines) small = free_append (entry_line line) (flat_map entry_line lines) (entry_free line small.0) (entries_free lines small.1)
 
-unnamed_free : (by : KeysBy) (asked : Subject) (unnamed : Reasons) → IsSmall asked.cert → HasNoEscape (unnamed_line by asked unnamed)
-unnamed_free by asked unnamed small = three_free (codes "  no line of the texts names it") (reasons_text by asked unnamed) (10 ∷ []) refl (reasons_free by asked unnamed small) refl
+unnamed_free : (spelled : Spelled) (asked : Subject) (unnamed : Reasons) → IsSmall asked.cert → HasNoEscape (unnamed_line spelled asked unnamed)
+unnamed_free spelled asked unnamed small = three_free (codes "  no line of the texts names it") (reasons_text spelled asked unnamed) (10 ∷ []) refl (reasons_free spelled asked unnamed small) refl
 
 explained_free : (by : KeysBy) (asked : Subject) (explained : Option Explained) → IsSmall asked.cert → HaveNumbers explained → HasNoEscape (explained_if by asked explained)
 unfolding explained_text
 explained_free by asked None small numbers = refl
 explained_free by asked (Some explained) small numbers =
-    free_append (flat_map entry_line explained.lines) (if any_reason explained.unnamed then unnamed_line by asked explained.unnamed else []) (entries_free explained.lines numbers)
-    (if_free (any_reason explained.unnamed) (unnamed_line by asked explained.unnamed) (unnamed_free by asked explained.unnamed small))
+    let spelled = spelled_by by (Some explained) in
+    free_append (flat_map entry_line explained.lines) (if any_reason explained.unnamed then unnamed_line spelled asked explained.unnamed else []) (entries_free explained.lines numbers)
+    (if_free (any_reason explained.unnamed) (unnamed_line spelled asked explained.unnamed) (unnamed_free spelled asked explained.unnamed small))
 
 -- what follows a line in colour has none
 followed : (plain coloured tail : List ℕ) → IsPainted plain coloured → HasNoEscape tail → IsPainted (plain ++ tail) (coloured ++ tail)
@@ -211,24 +217,25 @@ module _ (reads : ReadsJust string_at string (λ (text : List ℕ). length text 
       let name : List ℕ = certificate_name certificate.key.kind in
       named_free blob name (string certificate.nonce ++ is.fields) bytes (opening_spelled blob name certificate.nonce is.fields is.opening) (names_free certificate.key.kind).1
 
-  key_tail_free : (blob comment : List ℕ) (asked : Subject) (all : Reasons) → HasNoEscape (type_of blob) → IsSmall asked.cert
-      → HasNoEscape (key_words blob asked ++ (reasons_text Blob asked all ++ (comment_words comment ++ 10 ∷ [])))
-  key_tail_free blob comment asked all typed small =
-      three_free (key_words blob asked) (reasons_text Blob asked all) (comment_words comment ++ 10 ∷ [])
-      (three_free (type_of blob) (codes " ") (print_by Blob asked.plain) typed refl (print_free Blob asked.plain)) (reasons_free Blob asked all small)
+  key_tail_free : (blob comment : List ℕ) (asked : Subject) (answer : Answer) → HasNoEscape (type_of blob) → IsSmall asked.cert
+      → HasNoEscape (key_words blob asked ++ (reasons_text (spelled_by Blob answer.explained) asked answer.reasons ++ (comment_words comment ++ 10 ∷ [])))
+  key_tail_free blob comment asked answer typed small =
+      let spelled = spelled_by Blob answer.explained in
+      three_free (key_words blob asked) (reasons_text spelled asked answer.reasons) (comment_words comment ++ 10 ∷ [])
+      (three_free (type_of blob) (codes " ") (print_by Blob asked.plain) typed refl (print_free Blob asked.plain)) (reasons_free spelled asked answer.reasons small)
       (free_append (comment_words comment) (10 ∷ []) (comment_free comment) refl)
 
-  line_painted : (name blob comment : List ℕ) (number : ℕ) (asked : Subject) (all : Reasons) → number < 2 ^ 64 → IsBytes blob → IsSubject blob asked
-      → IsPainted (key_line false name number blob comment asked all) (key_line true name number blob comment asked all)
-  line_painted name blob comment number asked all small bytes is =
-      verdict_painted (location_text name number) (key_words blob asked ++ (reasons_text Blob asked all ++ (comment_words comment ++ 10 ∷ []))) (any_reason all)
-      (place_free name number small) (key_tail_free blob comment asked all (type_free blob asked bytes is) (small_serial blob asked is))
+  line_painted : (name blob comment : List ℕ) (number : ℕ) (asked : Subject) (answer : Answer) → number < 2 ^ 64 → IsBytes blob → IsSubject blob asked
+      → IsPainted (key_line false name number blob comment asked answer) (key_line true name number blob comment asked answer)
+  line_painted name blob comment number asked answer small bytes is =
+      verdict_painted (location_text name number) (key_words blob asked ++ (reasons_text (spelled_by Blob answer.explained) asked answer.reasons ++ (comment_words comment ++ 10 ∷ []))) (any_reason answer.reasons)
+      (place_free name number small) (key_tail_free blob comment asked answer (type_free blob asked bytes is) (small_serial blob asked is))
 
   pub key_painted : (name blob comment : List ℕ) (number : ℕ) (asked : Subject) (answer : Answer) → number < 2 ^ 64 → HaveNumbers answer.explained → IsBytes blob → IsSubject blob asked
       → IsPainted (key_text false name number blob comment asked answer) (key_text true name number blob comment asked answer)
   key_painted name blob comment number asked answer small numbers bytes is =
-      followed (key_line false name number blob comment asked answer.reasons) (key_line true name number blob comment asked answer.reasons) (explained_if Blob asked answer.explained)
-      (line_painted name blob comment number asked answer.reasons small bytes is) (explained_free Blob asked answer.explained (small_serial blob asked is) numbers)
+      followed (key_line false name number blob comment asked answer) (key_line true name number blob comment asked answer) (explained_if Blob asked answer.explained)
+      (line_painted name blob comment number asked answer small bytes is) (explained_free Blob asked answer.explained (small_serial blob asked is) numbers)
 
 -- ---- why a line or a file is not read
 

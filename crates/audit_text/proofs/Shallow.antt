@@ -6,7 +6,7 @@ use Rattle.key_text.specs.declared.marker.Marker.{Marker}
 use Rattle.krl_types.specs.Subject.{CertNames, Subject}
 use Rattle.krl_fingerprints.specs.declared.keys_by.KeysBy.{KeysBy}
 use Rattle.krl_fingerprints.specs.declared.keys_by.KeysBy.TheVariants.{Blob}
-use Rattle.audit_text.specs.Print.{print_by}
+use Rattle.audit_text.specs.Print.{Spelled, print_by, spelled_by}
 use Rattle.std.specs.List.{flat_map}
 use Rattle.krl_entries.specs.Reasons.{any_reason, every_reason, has_reason}
 use Rattle.krl_entries.specs.declared.reasons.Reason.{Reason}
@@ -17,8 +17,8 @@ use Rattle.json.specs.Tree.{depth}
 use Rattle.json_lines.specs.Field.{Field, number_field, text_field, word_field}
 use Rattle.json_lines.proofs.Shallow.{FieldsFit, Fits, ValuesFit, array_fits, deeper, digits_fit, fields_fit, number_fits, object_fits, text_fits, values_fit, word_fits}
 use Rattle.audit_text.specs.More.{kind_word, more_fields, more_object, more_words, why_more}
-use Rattle.audit_text.specs.Objects.{by_value, cert_field, cert_fields, cert_names, front_fields, front_word, id_field, id_value, key_fields, key_object, line_fields, list_fields, location_fields, marker_fields, entry_value, explained_fields}
-use Rattle.audit_text.specs.Objects.{of_value, reason_value, reason_values, reasons_field, serial_field, serial_value, status_word, unread_object}
+use Rattle.audit_text.specs.Objects.{all_authorities, authority_fields, by_value, cert_field, cert_fields, cert_names, front_fields, front_word, id_field, id_value, key_fields, key_object, line_fields, list_fields, location_fields, marker_fields, entry_value, explained_fields}
+use Rattle.audit_text.specs.Objects.{name_fields, of_value, reason_value, reason_values, reasons_field, serial_field, serial_value, status_word, unread_object}
 use Rattle.audit_lines.specs.FaultText.{why_fault, why_fields}
 use Rattle.audit_lines.specs.Outcome.{Found}
 use Rattle.audit_text.specs.Same.{same_fields, same_object}
@@ -39,46 +39,56 @@ by_fits by = object_fits 0 (word_field (codes "by") by ∷ []) (word_fits 0 (cod
 of_fits : (of : List ℕ) → Fits 1 (of_value of)
 of_fits of = object_fits 0 (word_field (codes "by") (codes "authority") ∷ word_field (codes "of") of ∷ []) (word_fits 0 (codes "by") (codes "authority"), (word_fits 0 (codes "of") of, tt))
 
-name_fits : (by : List ℕ) (name : Field) (authority : List ℕ) → Fits 0 name.value → Fits 1 (by_value by (name ∷ text_field (codes "authority") authority ∷ []))
-name_fits by name authority fit = object_fits 0 (word_field (codes "by") by ∷ name ∷ text_field (codes "authority") authority ∷ []) (word_fits 0 (codes "by") by, (fit, (text_fits 0 (codes "authority") authority, tt)))
+named_fits : (by : List ℕ) (name : Field) (authority : List Field) → Fits 0 name.value → FieldsFit 0 authority → Fits 1 (by_value by (name ∷ authority))
+named_fits by name authority fit fits = object_fits 0 (word_field (codes "by") by ∷ name ∷ authority) (word_fits 0 (codes "by") by, (fit, fits))
 
-serial_fits : (serial : ℕ) (authority : List ℕ) → Fits 1 (serial_value serial authority)
-serial_fits serial authority = name_fits (codes "serial") (serial_field serial) authority (digits_fit 0 (codes "serial") serial)
+serial_fits : (serial : ℕ) (authority : List Field) → FieldsFit 0 authority → Fits 1 (serial_value serial authority)
+serial_fits serial authority fits = named_fits (codes "serial") (serial_field serial) authority (digits_fit 0 (codes "serial") serial) fits
 
-id_fits : (id authority : List ℕ) → Fits 1 (id_value id authority)
-id_fits id authority = name_fits (codes "id") (id_field id) authority (text_fits 0 (codes "id") id)
+id_fits : (id : List ℕ) (authority : List Field) → FieldsFit 0 authority → Fits 1 (id_value id authority)
+id_fits id authority fits = named_fits (codes "id") (id_field id) authority (text_fits 0 (codes "id") id) fits
 
-reason_fits : (by : KeysBy) (reason : Reason) (cert : Option CertNames) → ValuesFit 1 (reason_value by reason cert)
-reason_fits by reasons.Key cert = (by_fits (codes "key"), tt)
-reason_fits by reasons.KeySha1 cert = (by_fits (codes "sha1"), tt)
-reason_fits by reasons.KeySha256 cert = (by_fits (codes "sha256"), tt)
-reason_fits by reason None = none reason
+name_fits : (name : Option (List ℕ)) → FieldsFit 0 (name_fields name)
+name_fits None = tt
+name_fits (Some name) = (text_fits 0 (codes "name") name, tt)
+
+authority_fit : (spelled : Spelled) (authority : List ℕ) → FieldsFit 0 (authority_fields spelled authority)
+authority_fit spelled authority = (text_fits 0 (codes "authority") (print_by spelled.by authority), name_fits spelled.authority)
+
+all_fit : FieldsFit 0 all_authorities
+all_fit = (text_fits 0 (codes "authority") (codes "all"), tt)
+
+reason_fits : (spelled : Spelled) (reason : Reason) (cert : Option CertNames) → ValuesFit 1 (reason_value spelled reason cert)
+reason_fits spelled reasons.Key cert = (by_fits (codes "key"), tt)
+reason_fits spelled reasons.KeySha1 cert = (by_fits (codes "sha1"), tt)
+reason_fits spelled reasons.KeySha256 cert = (by_fits (codes "sha256"), tt)
+reason_fits spelled reason None = none reason
   where
-    none : (reason : Reason) → ValuesFit 1 (reason_value by reason None)
+    none : (reason : Reason) → ValuesFit 1 (reason_value spelled reason None)
     none reasons.Key = (by_fits (codes "key"), tt)
     none reasons.KeySha1 = (by_fits (codes "sha1"), tt)
     none reasons.KeySha256 = (by_fits (codes "sha256"), tt)
     none other = tt
-reason_fits by reasons.Authority (Some cert) = (of_fits (codes "key"), tt)
-reason_fits by reasons.AuthoritySha1 (Some cert) = (of_fits (codes "sha1"), tt)
-reason_fits by reasons.AuthoritySha256 (Some cert) = (of_fits (codes "sha256"), tt)
-reason_fits by reasons.Serial (Some cert) = (serial_fits cert.serial (print_by by cert.authority), tt)
-reason_fits by reasons.SerialOfAll (Some cert) = (serial_fits cert.serial (codes "all"), tt)
-reason_fits by reasons.KeyId (Some cert) = (id_fits cert.key_id (print_by by cert.authority), tt)
-reason_fits by reasons.KeyIdOfAll (Some cert) = (id_fits cert.key_id (codes "all"), tt)
+reason_fits spelled reasons.Authority (Some cert) = (of_fits (codes "key"), tt)
+reason_fits spelled reasons.AuthoritySha1 (Some cert) = (of_fits (codes "sha1"), tt)
+reason_fits spelled reasons.AuthoritySha256 (Some cert) = (of_fits (codes "sha256"), tt)
+reason_fits spelled reasons.Serial (Some cert) = (serial_fits cert.serial (authority_fields spelled cert.authority) (authority_fit spelled cert.authority), tt)
+reason_fits spelled reasons.SerialOfAll (Some cert) = (serial_fits cert.serial all_authorities all_fit, tt)
+reason_fits spelled reasons.KeyId (Some cert) = (id_fits cert.key_id (authority_fields spelled cert.authority) (authority_fit spelled cert.authority), tt)
+reason_fits spelled reasons.KeyIdOfAll (Some cert) = (id_fits cert.key_id all_authorities all_fit, tt)
 
 if_fits : (said : Bool) (values : List Json) → ValuesFit 1 values → ValuesFit 1 (if said then values else [])
 if_fits true values fit = fit
 if_fits false values fit = tt
 
-few_fit : (by : KeysBy) (asked : Subject) (all : Reasons) (few : List Reason) → ValuesFit 1 (flat_map (λ reason. if has_reason all reason then reason_value by reason asked.cert else []) few)
-few_fit by asked all [] = tt
-few_fit by asked all (reason ∷ few) =
-    values_fit 1 (if has_reason all reason then reason_value by reason asked.cert else []) (flat_map (λ reason. if has_reason all reason then reason_value by reason asked.cert else []) few)
-    (if_fits (has_reason all reason) (reason_value by reason asked.cert) (reason_fits by reason asked.cert)) (few_fit by asked all few)
+few_fit : (spelled : Spelled) (asked : Subject) (all : Reasons) (few : List Reason) → ValuesFit 1 (flat_map (λ reason. if has_reason all reason then reason_value spelled reason asked.cert else []) few)
+few_fit spelled asked all [] = tt
+few_fit spelled asked all (reason ∷ few) =
+    values_fit 1 (if has_reason all reason then reason_value spelled reason asked.cert else []) (flat_map (λ reason. if has_reason all reason then reason_value spelled reason asked.cert else []) few)
+    (if_fits (has_reason all reason) (reason_value spelled reason asked.cert) (reason_fits spelled reason asked.cert)) (few_fit spelled asked all few)
 
-reasons_fit : (by : KeysBy) (asked : Subject) (all : Reasons) → Fits 2 (reasons_field by asked all).value
-reasons_fit by asked all = array_fits 1 (reason_values by asked all) (few_fit by asked all every_reason)
+reasons_fit : (spelled : Spelled) (asked : Subject) (all : Reasons) → Fits 2 (reasons_field spelled asked all).value
+reasons_fit spelled asked all = array_fits 1 (reason_values spelled asked all) (few_fit spelled asked all every_reason)
 
 -- ---- fields
 
@@ -100,7 +110,7 @@ entries_fit (line ∷ lines) small = (entry_fits line small.0, entries_fit lines
 
 explained_fit : (by : KeysBy) (asked : Subject) (explained : Option Explained) → HaveNumbers explained → FieldsFit 2 (explained_fields by asked explained)
 explained_fit by asked None small = tt
-explained_fit by asked (Some explained) small = (array_fits 1 (map entry_value explained.lines) (entries_fit explained.lines small), (reasons_fit by asked explained.unnamed, tt))
+explained_fit by asked (Some explained) small = (array_fits 1 (map entry_value explained.lines) (entries_fit explained.lines small), (reasons_fit (spelled_by by (Some explained)) asked explained.unnamed, tt))
 
 key_fits : (blob comment : List ℕ) (asked : Subject) (all : Reasons) → FieldsFit 2 (key_fields blob comment asked all)
 key_fits blob comment asked all =
@@ -123,8 +133,8 @@ cert_fits by (Some cert) = (deeper 1 2 (cert_field by cert).value (omega arith) 
 
 pub list_fits : (by : KeysBy) (asked : Subject) (answer : Answer) → HaveNumbers answer.explained → FieldsFit 2 (list_fields by asked answer)
 list_fits by asked answer small =
-    fields_fit 2 (cert_fields by asked.cert) (reasons_field by asked answer.reasons ∷ explained_fields by asked answer.explained) (cert_fits by asked.cert)
-    (reasons_fit by asked answer.reasons, explained_fit by asked answer.explained small)
+    fields_fit 2 (cert_fields by asked.cert) (reasons_field (spelled_by by answer.explained) asked answer.reasons ∷ explained_fields by asked answer.explained) (cert_fits by asked.cert)
+    (reasons_fit (spelled_by by answer.explained) asked answer.reasons, explained_fit by asked answer.explained small)
 
 -- ---- objects
 

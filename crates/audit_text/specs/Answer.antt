@@ -1,5 +1,5 @@
 -- The answer about a key.
-use Rattle.std.specs.Prelude.{ℕ, ◌<◌, ◌^◌, Option, Some, None}
+use Rattle.std.specs.Prelude.{◌<◌, ◌^◌, Option, Some, None}
 use Rattle.std.specs.List.{AllByRecursion}
 use Rattle.krl_types.specs.Subject.{Subject}
 use Rattle.krl_entries.specs.declared.reasons.Reasons.{Reasons}

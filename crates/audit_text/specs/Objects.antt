@@ -15,7 +15,7 @@ use Rattle.krl_entries.specs.declared.reasons.Reason.TheVariants as reasons
 use Rattle.krl_entries.specs.declared.reasons.Reasons.{Reasons}
 use Rattle.audit_lines.specs.Outcome.{Found}
 use Rattle.audit_text.specs.Answer.{Answer}
-use Rattle.audit_text.specs.Print.{print_by}
+use Rattle.audit_text.specs.Print.{Spelled, print_by, spelled_by}
 use Rattle.audit_text.specs.Text.{type_of}
 use Rattle.audit_lines.specs.FaultText.{why_fields}
 use Rattle.audit_lines.specs.declared.why.Why.{Why}
@@ -43,35 +43,46 @@ by_value by fields = object_of (word_field (codes "by") by ∷ fields)
 abbrev pub of_value : List ℕ → Json
 of_value of = by_value (codes "authority") (word_field (codes "of") of ∷ [])
 
--- a serial number or a key ID, under the authority of this fingerprint or under all
-abbrev pub serial_value : ℕ → List ℕ → Json
-serial_value serial authority =
-    by_value (codes "serial") (serial_field serial ∷ text_field (codes "authority") authority ∷ [])
+abbrev pub name_fields : Option (List ℕ) → List Field
+name_fields None = []
+name_fields (Some name) = text_field (codes "name") name ∷ []
 
-abbrev pub id_value : List ℕ → List ℕ → Json
-id_value id authority =
-    by_value (codes "id") (id_field id ∷ text_field (codes "authority") authority ∷ [])
+-- the fingerprint of an authority, and its name, if it has one
+abbrev pub authority_fields : Spelled → List ℕ → List Field
+authority_fields spelled authority =
+    text_field (codes "authority") (print_by spelled.by authority) ∷ name_fields spelled.authority
+
+abbrev pub all_authorities : List Field
+all_authorities = text_field (codes "authority") (codes "all") ∷ []
+
+-- a serial number or a key ID, with the fields of its authority
+abbrev pub serial_value : ℕ → List Field → Json
+serial_value serial authority = by_value (codes "serial") (serial_field serial ∷ authority)
+
+abbrev pub id_value : List ℕ → List Field → Json
+id_value id authority = by_value (codes "id") (id_field id ∷ authority)
 
 -- A plain key has no reason that is about a certificate.
-abbrev pub reason_value : KeysBy → Reason → Option CertNames → List Json
-reason_value by reasons.Key _ = by_value (codes "key") [] ∷ []
-reason_value by reasons.KeySha1 _ = by_value (codes "sha1") [] ∷ []
-reason_value by reasons.KeySha256 _ = by_value (codes "sha256") [] ∷ []
-reason_value by _ None = []
-reason_value by reasons.Authority (Some cert) = of_value (codes "key") ∷ []
-reason_value by reasons.AuthoritySha1 (Some cert) = of_value (codes "sha1") ∷ []
-reason_value by reasons.AuthoritySha256 (Some cert) = of_value (codes "sha256") ∷ []
-reason_value by reasons.Serial (Some cert) =
-    serial_value cert.serial (print_by by cert.authority) ∷ []
-reason_value by reasons.SerialOfAll (Some cert) = serial_value cert.serial (codes "all") ∷ []
-reason_value by reasons.KeyId (Some cert) =
-    id_value cert.key_id (print_by by cert.authority) ∷ []
-reason_value by reasons.KeyIdOfAll (Some cert) = id_value cert.key_id (codes "all") ∷ []
+abbrev pub reason_value : Spelled → Reason → Option CertNames → List Json
+reason_value spelled reasons.Key _ = by_value (codes "key") [] ∷ []
+reason_value spelled reasons.KeySha1 _ = by_value (codes "sha1") [] ∷ []
+reason_value spelled reasons.KeySha256 _ = by_value (codes "sha256") [] ∷ []
+reason_value spelled _ None = []
+reason_value spelled reasons.Authority (Some cert) = of_value (codes "key") ∷ []
+reason_value spelled reasons.AuthoritySha1 (Some cert) = of_value (codes "sha1") ∷ []
+reason_value spelled reasons.AuthoritySha256 (Some cert) = of_value (codes "sha256") ∷ []
+reason_value spelled reasons.Serial (Some cert) =
+    serial_value cert.serial (authority_fields spelled cert.authority) ∷ []
+reason_value spelled reasons.SerialOfAll (Some cert) = serial_value cert.serial all_authorities ∷ []
+reason_value spelled reasons.KeyId (Some cert) =
+    id_value cert.key_id (authority_fields spelled cert.authority) ∷ []
+reason_value spelled reasons.KeyIdOfAll (Some cert) = id_value cert.key_id all_authorities ∷ []
 
 -- all reasons, in the order in which people read them
-abbrev pub reason_values : KeysBy → Subject → Reasons → List Json
-reason_values by asked found =
-    flat_map (λ reason. if has_reason found reason then reason_value by reason asked.cert else [])
+abbrev pub reason_values : Spelled → Subject → Reasons → List Json
+reason_values spelled asked found =
+    flat_map
+    (λ reason. if has_reason found reason then reason_value spelled reason asked.cert else [])
     every_reason
 
 -- ---- keys
@@ -116,8 +127,9 @@ abbrev pub cert_fields : KeysBy → Option CertNames → List Field
 cert_fields by None = []
 cert_fields by (Some cert) = cert_field by cert ∷ []
 
-abbrev pub reasons_field : KeysBy → Subject → Reasons → Field
-reasons_field by asked all = field (codes "reasons") (array_of (reason_values by asked all))
+abbrev pub reasons_field : Spelled → Subject → Reasons → Field
+reasons_field spelled asked all =
+    field (codes "reasons") (array_of (reason_values spelled asked all))
 
 -- a line of a text, with its place
 abbrev pub entry_value : Line → Json
@@ -129,13 +141,15 @@ abbrev pub explained_fields : KeysBy → Subject → Option Explained → List F
 explained_fields by asked None = []
 explained_fields by asked (Some explained) =
     field (codes "entries") (array_of (map entry_value explained.lines))
-    ∷ field (codes "unnamed") (array_of (reason_values by asked explained.unnamed)) ∷ []
+    ∷ field (codes "unnamed")
+    (array_of (reason_values (spelled_by by (Some explained)) asked explained.unnamed)) ∷ []
 
 -- the certificate, and why it or its key is revoked
 abbrev pub list_fields : KeysBy → Subject → Answer → List Field
 list_fields by asked answer =
     cert_fields by asked.cert
-    ++ reasons_field by asked answer.reasons ∷ explained_fields by asked answer.explained
+    ++ reasons_field (spelled_by by answer.explained) asked answer.reasons
+    ∷ explained_fields by asked answer.explained
 
 -- the object of a key, revoked or not
 abbrev pub key_object : List ℕ → ℕ → Found → Answer → Json

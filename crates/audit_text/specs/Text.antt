@@ -12,7 +12,7 @@ use Rattle.krl_entries.specs.declared.reasons.Reason.TheVariants as reasons
 use Rattle.krl_entries.specs.declared.reasons.Reasons.{Reasons}
 use Rattle.audit_text.specs.Answer.{Answer}
 use Rattle.audit_text.specs.Colour.{unread_word, verdict_word}
-use Rattle.audit_text.specs.Print.{print_by}
+use Rattle.audit_text.specs.Print.{Spelled, authority_words, print_by, spelled_by}
 use Rattle.line_pieces.specs.Visible.{visible}
 use Rattle.text_index.specs.Explaining.{Explained}
 use Rattle.text_index.specs.NamingLines.{Line}
@@ -26,37 +26,38 @@ location_text name number =
 
 -- ---- reasons
 
-abbrev pub of_authority : KeysBy → List ℕ → List ℕ
-of_authority by authority = codes " of CA " ++ print_by by authority
+abbrev pub of_authority : Spelled → List ℕ → List ℕ
+of_authority spelled authority =
+    codes " of CA " ++ authority_words spelled.by authority spelled.authority
 
 -- the words for a reason, after a comma; a plain key has none that is about a certificate
-abbrev pub reason_words : KeysBy → Reason → Option CertNames → List ℕ
-reason_words by reasons.Key _ = codes ", by its key"
-reason_words by reasons.KeySha1 _ = codes ", by its SHA-1"
-reason_words by reasons.KeySha256 _ = codes ", by its SHA-256"
-reason_words by _ None = []
-reason_words by reasons.Authority (Some cert) = codes ", by the key of its CA"
-reason_words by reasons.AuthoritySha1 (Some cert) = codes ", by the SHA-1 of its CA"
-reason_words by reasons.AuthoritySha256 (Some cert) = codes ", by the SHA-256 of its CA"
-reason_words by reasons.Serial (Some cert) =
-    codes ", by serial " ++ (decimal cert.serial ++ of_authority by cert.authority)
-reason_words by reasons.SerialOfAll (Some cert) =
+abbrev pub reason_words : Spelled → Reason → Option CertNames → List ℕ
+reason_words spelled reasons.Key _ = codes ", by its key"
+reason_words spelled reasons.KeySha1 _ = codes ", by its SHA-1"
+reason_words spelled reasons.KeySha256 _ = codes ", by its SHA-256"
+reason_words spelled _ None = []
+reason_words spelled reasons.Authority (Some cert) = codes ", by the key of its CA"
+reason_words spelled reasons.AuthoritySha1 (Some cert) = codes ", by the SHA-1 of its CA"
+reason_words spelled reasons.AuthoritySha256 (Some cert) = codes ", by the SHA-256 of its CA"
+reason_words spelled reasons.Serial (Some cert) =
+    codes ", by serial " ++ (decimal cert.serial ++ of_authority spelled cert.authority)
+reason_words spelled reasons.SerialOfAll (Some cert) =
     codes ", by serial " ++ (decimal cert.serial ++ codes " of all CAs")
-reason_words by reasons.KeyId (Some cert) =
+reason_words spelled reasons.KeyId (Some cert) =
     codes ", by key ID \"" ++ (visible true cert.key_id
-    ++ (codes "\"" ++ of_authority by cert.authority))
-reason_words by reasons.KeyIdOfAll (Some cert) =
+    ++ (codes "\"" ++ of_authority spelled cert.authority))
+reason_words spelled reasons.KeyIdOfAll (Some cert) =
     codes ", by key ID \"" ++ (visible true cert.key_id ++ codes "\" of all CAs")
 
 -- each reason after a comma
-abbrev pub reason_parts : KeysBy → Subject → Reasons → List ℕ
-reason_parts by asked all =
-    flat_map (λ reason. if has_reason all reason then reason_words by reason asked.cert else [])
+abbrev pub reason_parts : Spelled → Subject → Reasons → List ℕ
+reason_parts spelled asked all =
+    flat_map (λ reason. if has_reason all reason then reason_words spelled reason asked.cert else [])
     every_reason
 
 -- the reasons, with no comma before the first one
-abbrev pub reasons_text : KeysBy → Subject → Reasons → List ℕ
-reasons_text by asked all = drop 1 (reason_parts by asked all)
+abbrev pub reasons_text : Spelled → Subject → Reasons → List ℕ
+reasons_text spelled asked all = drop 1 (reason_parts spelled asked all)
 
 -- ---- what explains
 
@@ -67,19 +68,20 @@ entry_line line =
     ++ (codes ": " ++ (visible false line.text ++ 10 ∷ [])))
 
 -- the reasons that no line gives
-abbrev pub unnamed_line : KeysBy → Subject → Reasons → List ℕ
-unnamed_line by asked unnamed =
-    codes "  no line of the texts names it" ++ (reasons_text by asked unnamed ++ 10 ∷ [])
+abbrev pub unnamed_line : Spelled → Subject → Reasons → List ℕ
+unnamed_line spelled asked unnamed =
+    codes "  no line of the texts names it" ++ (reasons_text spelled asked unnamed ++ 10 ∷ [])
 
 -- the lines that explain, and after them the reasons that none gives, if there are any
-unfoldable pub explained_text : KeysBy → Subject → Explained → List ℕ
-explained_text by asked explained =
+unfoldable pub explained_text : Spelled → Subject → Explained → List ℕ
+explained_text spelled asked explained =
     flat_map entry_line explained.lines
-    ++ (if any_reason explained.unnamed then unnamed_line by asked explained.unnamed else [])
+    ++ (if any_reason explained.unnamed then unnamed_line spelled asked explained.unnamed else [])
 
 abbrev pub explained_if : KeysBy → Subject → Option Explained → List ℕ
 explained_if by asked None = []
-explained_if by asked (Some explained) = explained_text by asked explained
+explained_if by asked (Some explained) =
+    explained_text (spelled_by by (Some explained)) asked explained
 
 -- ---- lines
 
@@ -100,17 +102,18 @@ comment_words [] = []
 comment_words (byte ∷ bytes) = codes ": " ++ visible false (byte ∷ bytes)
 
 -- the line of a key, revoked or not, in colour or not
-abbrev pub key_line : Bool → List ℕ → ℕ → (blob comment : List ℕ) → Subject → Reasons → List ℕ
-key_line coloured name number blob comment asked all =
+abbrev pub key_line : Bool → List ℕ → ℕ → (blob comment : List ℕ) → Subject → Answer → List ℕ
+key_line coloured name number blob comment asked answer =
     location_text name number
-    ++ (verdict_word coloured (any_reason all)
+    ++ (verdict_word coloured (any_reason answer.reasons)
     ++ (key_words blob asked
-    ++ (reasons_text Blob asked all ++ (comment_words comment ++ 10 ∷ []))))
+    ++ (reasons_text (spelled_by Blob answer.explained) asked answer.reasons
+    ++ (comment_words comment ++ 10 ∷ []))))
 
 -- the line of a key, and the lines of texts that explain it
 abbrev pub key_text : Bool → List ℕ → ℕ → (blob comment : List ℕ) → Subject → Answer → List ℕ
 key_text coloured name number blob comment asked answer =
-    key_line coloured name number blob comment asked answer.reasons
+    key_line coloured name number blob comment asked answer
     ++ explained_if Blob asked answer.explained
 
 -- the line for a line or file that is not read, in colour or not

@@ -1,13 +1,15 @@
 //! The lines of texts that explain why a key is revoked.
 
-ghost use Rattle.std.specs.Prelude.{◌≡◌, ◌++◌, ◌∷◌, [], OnOk, map};
+ghost use Rattle.std.specs.Prelude.{◌≡◌, ◌++◌, ◌∷◌, [], OnOk, Some, map};
 ghost use Rattle.std.specs.List.{flat_map};
 ghost use Rattle.json_lines.specs.Field.{values_tokens};
 ghost use Rattle.text_index.specs.Explaining.{explained_of};
 ghost use Rattle.text_index.specs.Indexing.{line_of};
 ghost use Rattle.audit_text.specs.Objects.{entry_value, explained_fields};
+ghost use Rattle.audit_text.specs.Print.{spelled_by, spelled_of};
 ghost use Rattle.audit_text.specs.Text.{entry_line, explained_text, unnamed_line};
 
+use crate::print::{Spelling, name_in};
 use crate::reason_values::ReasonsOf;
 use crate::reasons::ReasonWords;
 use crate::text::Location;
@@ -29,12 +31,15 @@ pub fn push_explained(
     subject: &Subject<'_>,
     explanation: &Explanation<'_>,
 ) -> Result<(), AllocError>
-    ensures { OnOk result (text.new.items
-        ≡ text.old.items ++ explained_text by subject.now (explained_of explanation.now)) }
+    ensures { OnOk result (text.new.items ≡ text.old.items
+        ++ explained_text (spelled_by by (Some (explained_of explanation.now))) subject.now
+        (explained_of explanation.now)) }
 {
     push_lines(text, explanation.lines.as_slice())?;
     if explanation.unnamed.any() {
-        push_unnamed(alloc, text, by, subject, explanation.unnamed)?;
+        let authority = name_in(explanation);
+        let spelling = Spelling { by, authority };
+        push_unnamed(alloc, text, spelling, subject, explanation.unnamed)?;
     }
     Ok(())
 }
@@ -66,14 +71,15 @@ fn push_line(text: &mut Vec<u8>, line: TextLine<'_>) -> Result<(), AllocError>
 fn push_unnamed(
     alloc: Global,
     text: &mut Vec<u8>,
-    by: KeysBy,
+    spelling: Spelling<'_>,
     subject: &Subject<'_>,
     unnamed: Reasons,
 ) -> Result<(), AllocError>
-    ensures { OnOk result (text.new.items ≡ text.old.items ++ unnamed_line by subject.now unnamed) }
+    ensures { OnOk result (text.new.items
+        ≡ text.old.items ++ unnamed_line (spelled_of spelling.entry) subject.now unnamed) }
 {
     put!(text; b"  no line of the texts names it",
-        ReasonWords { alloc, by, subject, reasons: unnamed }, b"\n")
+        ReasonWords { alloc, spelling, subject, reasons: unnamed }, b"\n")
 }
 
 /// The explanation of a finding about a key, if texts are given. The subject gives keys so.
@@ -94,8 +100,13 @@ impl<'a> Fields for ExplainedOf<'a> {
         let Some(explanation) = self.2 else {
             return Ok(());
         };
+        let authority = name_in(explanation);
+        let spelling = Spelling {
+            by: self.0,
+            authority,
+        };
         put_fields!(alloc, out; "entries": Array(LinesOf(explanation.lines.as_slice())),
-            "unnamed": Array(ReasonsOf(self.0, self.1, explanation.unnamed)))
+            "unnamed": Array(ReasonsOf(spelling, self.1, explanation.unnamed)))
     }
 }
 

@@ -22,7 +22,7 @@ pub use format::Format;
 pub use line_kind::LineKind;
 pub use more::{More, write_more};
 pub use objects::{CertOf, Fingerprint, status_word};
-pub use print::KeyPrint;
+pub use print::{KeyPrint, Spelling};
 pub use reason_values::ReasonsOf;
 pub use reasons::ReasonWords;
 pub use said::{say_key, say_unread};

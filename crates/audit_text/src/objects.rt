@@ -12,7 +12,7 @@ ghost use Rattle.audit_text.specs.Verdict.{answer_of};
 ghost use Rattle.audit_lines.specs.Outcome.{found_as};
 
 use crate::explained::ExplainedOf;
-use crate::print::KeyPrint;
+use crate::print::{KeyPrint, Spelling};
 use crate::reason_values::ReasonsOf;
 use crate::text::{Location, Verdict, type_of};
 use audit_lines::Why;
@@ -38,6 +38,7 @@ pub(crate) fn write_key_object(
 {
     let subject = verdict.subject;
     let found = verdict.found;
+    let spelling = Spelling::explained(KeysBy::Blob, verdict.explanation);
     object!(line; location,
         "status": status_word(verdict.reasons),
         "type": Text(type_of(found.blob.as_slice())),
@@ -45,7 +46,7 @@ pub(crate) fn write_key_object(
         "comment": Text(found.comment),
         fields!(MarkerOf(found.marker), Front(found.hosts, found.front)),
         CertOf(KeysBy::Blob, &subject.cert),
-        "reasons": Array(ReasonsOf(KeysBy::Blob, subject, verdict.reasons)),
+        "reasons": Array(ReasonsOf(spelling, subject, verdict.reasons)),
         ExplainedOf(KeysBy::Blob, subject, verdict.explanation))
 }
 

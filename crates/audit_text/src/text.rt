@@ -7,7 +7,7 @@ ghost use Rattle.audit_text.specs.Verdict.{answer_of};
 
 use crate::colour::{unread_mark, verdict_mark};
 use crate::explained::push_explained;
-use crate::print::KeyPrint;
+use crate::print::{KeyPrint, Spelling};
 use crate::reasons::ReasonWords;
 use audit_lines::{Found, Told, Why};
 use krl_entries::Reasons;
@@ -118,21 +118,22 @@ fn write_key_line(
 ) -> Result<(), AllocError>
     ensures { OnOk result (line.new.items ≡ key_line coloured location.entry.name.now
         location.entry.number verdict.now.found.now.blob verdict.now.found.now.comment.now
-        verdict.now.subject.now verdict.now.reasons) }
+        verdict.now.subject.now (answer_of verdict.now)) }
 {
     let by = KeysBy::Blob;
     let Verdict {
         found,
         subject,
         reasons,
-        ..
+        explanation,
     } = *verdict;
+    let spelling = Spelling::explained(by, explanation);
     let key_type = type_of(found.blob.as_slice());
     let key = subject.plain.as_slice();
     line.clear();
     put!(line; location, verdict_mark(coloured, reasons.any()),
         pieces!(Words(key_type), b" ", KeyPrint { alloc, by, key }),
-        ReasonWords { alloc, by, subject, reasons }, Comment(found.comment), b"\n")
+        ReasonWords { alloc, spelling, subject, reasons }, Comment(found.comment), b"\n")
 }
 
 /// The name of the type of a key, which is its first string.

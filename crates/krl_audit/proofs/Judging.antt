@@ -27,7 +27,7 @@ answer_with all explained = record { reasons = all; explained = explained }
 
 -- these reasons and what explains them are the answer for the key
 pub answered : (judge : Judge) (answers : Subject → Answer) (judges : JudgesAs judge answers) (subject : Subject) (all : Reasons) (explained : Option Explained)
-    → all ≡ judged_reasons judge subject → explained ≡ option_map (λ lines. explained_by lines subject all) judges.texts → answer_with all explained ≡ answers subject
+    → all ≡ judged_reasons judge subject → explained ≡ option_map (λ register. explained_by register subject all) judges.texts → answer_with all explained ≡ answers subject
 answered judge answers judges subject all explained tested is =
     ap (answer_with all) is ∙ ap (answer_by judges.texts subject) tested ∙ judges.answers_are subject
 

@@ -27,8 +27,8 @@ use Rattle.audit_lines.specs.Outcome.{Empty, Key, Outcome, Outcomes, Placed}
 use Rattle.audit_lines.specs.Outcome.{Unread, place, placed_from, plain_lines, private_lines}
 use Rattle.krl_audit.specs.Tally.{all_tallied, most, none_yet, tallied, within}
 use Rattle.text_index.specs.Explaining.{explained_by}
-use Rattle.text_index.specs.Indexing.{Indexes}
-use Rattle.text_index.specs.NamingLines.{NamingLine}
+use Rattle.text_index.specs.Indexing.{HasRegister}
+use Rattle.text_index.specs.NamingLines.{Register}
 use Rattle.text_index.specs.declared.indexing.TextIndex.{TextIndex}
 use Rattle.krl_audit.specs.declared.auditor.Auditor.{Auditor}
 use Rattle.krl_audit.specs.declared.counts.Counts.{Counts}
@@ -171,29 +171,29 @@ reasons_beside (Some canaries) list asked =
 abbrev pub judged_reasons : Judge → Subject → Reasons
 judged_reasons judge asked = reasons_beside judge.canaries judge.list.now asked
 
--- The index, if there is one, has exactly these lines.
-abbrev pub AreIndexed : Option (Bor TextIndex) → Option (List NamingLine) → Type 0
+-- The index, if there is one, has exactly these lines and names.
+abbrev pub AreIndexed : Option (Bor TextIndex) → Option Register → Type 0
 AreIndexed None None = Unit {0}
-AreIndexed None (Some lines) = ⊥
+AreIndexed None (Some texts) = ⊥
 AreIndexed (Some index) None = ⊥
-AreIndexed (Some index) (Some lines) = Indexes index.now lines
+AreIndexed (Some index) (Some texts) = HasRegister index.now texts
 
 -- The index, if there is one, is that of texts without a fault.
 abbrev pub IsUsable : Option (Bor TextIndex) → Type 0
 IsUsable None = Unit {0}
-IsUsable (Some index) = (lines : List NamingLine) × Indexes index.now lines
+IsUsable (Some index) = (texts : Register) × HasRegister index.now texts
 
 -- these reasons, and which of the lines give them
-abbrev pub answer_by : Option (List NamingLine) → Subject → Reasons → Answer
+abbrev pub answer_by : Option Register → Subject → Reasons → Answer
 answer_by texts asked reasons = record {
   reasons = reasons;
-  explained = option_map (λ lines. explained_by lines asked reasons) texts;
+  explained = option_map (λ register. explained_by register asked reasons) texts;
 }
 
 -- A list gives these reasons, but for canaries, and the texts explain them so.
 pub record AnswersAs (canaries : Option (Bor Revocations)) (list : Revocations)
     (index : Option (Bor TextIndex)) (answers : Subject → Answer) : Type 0 where
-  pub texts : Option (List NamingLine)
+  pub texts : Option Register
   pub indexed : AreIndexed index texts
   pub answers_are : (asked : Subject)
       → answer_by texts asked (reasons_beside canaries list asked) ≡ answers asked
@@ -211,7 +211,7 @@ reasons_but (Some canaries) entries =
     (reasons_of entries asked)
 
 -- the same reasons, and which of the lines give them
-abbrev pub answers_but : Option (List Entry) → List Entry → Option (List NamingLine) → Subject
+abbrev pub answers_but : Option (List Entry) → List Entry → Option Register → Subject
     → Answer
 answers_but canaries entries texts asked =
     answer_by texts asked (reasons_but canaries entries asked)

@@ -2,7 +2,7 @@
 
 ghost use Rattle.std.specs.Prelude.{◌≡◌, IfOk, List, Option, option_map};
 ghost use Rattle.text_index.specs.Explaining.{explained_by, explained_of};
-ghost use Rattle.text_index.specs.NamingLines.{NamingLine};
+ghost use Rattle.text_index.specs.NamingLines.{Register};
 ghost use Rattle.krl_types.specs.Subject.{Subject as SubjectOf};
 ghost use Rattle.audit_text.specs.Answer.{Answer as AnswerOf};
 ghost use Rattle.krl_audit.specs.Audit.{AreIndexed, IsMade, JudgesAs, judged_reasons, key_kind};
@@ -148,9 +148,9 @@ impl<'q> Judge<'q> {
         subject: &Subject<'_>,
         reasons: Reasons,
     ) -> Result<Option<Explanation<'q>>, AllocError>
-        ensures { IfOk result (λ given. (texts : Option (List NamingLine))
+        ensures { IfOk result (λ given. (texts : Option Register)
             → AreIndexed self.now.texts texts → option_map explained_of given
-            ≡ option_map (λ lines. explained_by lines subject.now reasons) texts) }
+            ≡ option_map (λ register. explained_by register subject.now reasons) texts) }
     {
         match self.texts {
             None => Ok(None),

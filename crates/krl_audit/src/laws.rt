@@ -7,7 +7,7 @@ ghost use Rattle.json_lines.specs.ReadBack.{IsReadBack};
 ghost use Rattle.krl_audit.specs.Audit.{answers_but, kind_of};
 ghost use Rattle.krl_audit.specs.Done.{AreCounts, done_object};
 ghost use Rattle.audit_lines.specs.Outcome.{Found, Key};
-ghost use Rattle.text_index.specs.NamingLines.{NamingLine};
+ghost use Rattle.text_index.specs.NamingLines.{Register};
 ghost use Rattle.krl_audit.specs.declared.counts.Counts.{Counts as CountsOf};
 ghost use Rattle.audit_text.specs.declared.line_kind.LineKind.TheVariants as kinds;
 ghost use Rattle.krl_audit.specs.declared.done.FileCounts.{FileCounts as FileCountsOf};
@@ -17,10 +17,10 @@ use json_lines::laws::lines_are_read_back;
 
 /// A key of a line without a marker is reported as revoked exactly if the entries revoke it.
 pub fn revoked_where_entries_revoke()
-    ensures revoked { (entries : List Entry) (texts : Option (List NamingLine)) (found : Found)
+    ensures revoked { (entries : List Entry) (texts : Option Register) (found : Found)
         → found.marker ≡ None → Revoked entries found.asked
         → kind_of (answers_but None entries texts) (Key found) ≡ kinds.Revoked }
-    ensures fine { (entries : List Entry) (texts : Option (List NamingLine)) (found : Found)
+    ensures fine { (entries : List Entry) (texts : Option Register) (found : Found)
         → found.marker ≡ None → (Revoked entries found.asked → ⊥)
         → kind_of (answers_but None entries texts) (Key found) ≡ kinds.Fine }
 {}

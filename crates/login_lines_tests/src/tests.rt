@@ -1,6 +1,7 @@
 //! Lines of logs, texts of key IDs, what is printed about logins, and the callers of the pages.
 
 mod escapes;
+mod explained;
 mod lines;
 mod objects;
 mod outcomes;

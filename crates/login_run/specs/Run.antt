@@ -23,7 +23,7 @@ use Rattle.krl_audit.specs.Audit.{AreIndexed, JudgesAs, answers_but}
 use Rattle.krl_audit.specs.Counts.{all_counted, audit_status}
 use Rattle.krl_audit.specs.declared.auditor.Auditor.{Auditor}
 use Rattle.krl_audit.specs.declared.counts.Counts.{Counts}
-use Rattle.text_index.specs.NamingLines.{NamingLine}
+use Rattle.text_index.specs.NamingLines.{Register}
 use Rattle.login_run.specs.Finding.{Placed, items_of, kinds_of}
 use Rattle.login_run.specs.Log.{IsBroken}
 use Rattle.login_run.specs.Summary.{done_object, login_status}
@@ -114,7 +114,7 @@ pub record EndsMeant (Knows : Fact → Type 0) (InputFailed : Type 0) (order : L
   pub summary_is : summary ≡ summary_unless fault (summary_of files counts queried)
   pub status_is : status ≡ login_status (audit_status (is_some fault) counts) queried.sha1s
   pub ends : (entries : List Entry) → Means queried.prints.now entries
-      → (texts : Option (List NamingLine)) → AreIndexed order.texts texts
+      → (texts : Option Register) → AreIndexed order.texts texts
       → EndsBy Knows InputFailed order queried input (answers_but None entries texts) files counts
       before after failed fault
 

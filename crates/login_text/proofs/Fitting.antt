@@ -1,11 +1,11 @@
 -- A key or certificate that a login fits, and the query about the login.
-use Rattle.std.proofs.Common.{◌≡◌, ℕ, ◌↔◌, ◌⊎◌, List, [], ◌∷◌, Option, Some, None, ap, inl, inr, refl, subst, ⊎_elim}
+use Rattle.std.proofs.Common.{◌≡◌, ℕ, ◌↔◌, List, [], ◌∷◌, Option, Some, None, ap, inl, inr, refl, subst, ⊎_elim}
 use Rattle.std.specs.Prelude.{option_map}
 use Rattle.std.proofs.Math.Logic.Iff as Iff
 use Rattle.sha2.specs.Sha256.{sha256}
 use Rattle.sha1.specs.Sha1.{sha1}
 use Rattle.krl_types.specs.Entry.{Entry}
-use Rattle.krl_types.specs.Naming.{IdOf, KeyOf, Name, SerialOf, Sha1Of, Sha256Of, SomeNames}
+use Rattle.krl_types.specs.Naming.{IdOf, KeyOf, Name, SerialOf, Sha256Of, SomeNames}
 use Rattle.krl_types.specs.Subject.{CertNames, Subject}
 use Rattle.krl_entries.specs.Reasons.{OfName}
 use Rattle.krl_entries.specs.Revoked.{CertRevoked, KeyNamed, Revoked, SomeNamesId, SomeNamesSerial}

@@ -2,14 +2,13 @@
 use Rattle.std.specs.Prelude.{ℕ, Bool, true, false, is_some, List, [], ◌∷◌, ◌++◌, codes, option_map}
 use Rattle.krl_types.specs.Subject.{Subject}
 use Rattle.krl_entries.specs.Reasons.{any_reason}
-use Rattle.krl_entries.specs.declared.reasons.Reasons.{Reasons}
 use Rattle.krl_fingerprints.specs.declared.keys_by.KeysBy.TheVariants.{Fingerprint}
 use Rattle.line_pieces.specs.Visible.{visible}
 use Rattle.login_lines.specs.Logins.{Reported}
 use Rattle.text_index.specs.Explaining.{explained_of}
 use Rattle.audit_text.specs.Answer.{Answer}
 use Rattle.audit_text.specs.Colour.{unread_word, verdict_word}
-use Rattle.audit_text.specs.Print.{print_by}
+use Rattle.audit_text.specs.Print.{print_by, spelled_by}
 use Rattle.audit_text.specs.Text.{explained_if, location_text, reasons_text}
 use Rattle.login_text.specs.Why.{login_why_text}
 use Rattle.login_text.specs.declared.text.LoginVerdict.{LoginVerdict}
@@ -31,17 +30,18 @@ abbrev pub key_words : Reported → Subject → List ℕ
 key_words login asked = login.key.kind ++ (codes " " ++ print_by Fingerprint asked.plain)
 
 -- the line of a login by a key or certificate that is revoked or not, in colour or not
-abbrev pub login_line : Bool → List ℕ → ℕ → Reported → (id : List ℕ) → Subject → Reasons → List ℕ
-login_line coloured name number login id asked all =
+abbrev pub login_line : Bool → List ℕ → ℕ → Reported → (id : List ℕ) → Subject → Answer → List ℕ
+login_line coloured name number login id asked answer =
     location_text name number
-    ++ (verdict_word coloured (any_reason all)
+    ++ (verdict_word coloured (any_reason answer.reasons)
     ++ (key_words login asked
-    ++ (reasons_text Fingerprint asked all ++ (login_words login id ++ 10 ∷ []))))
+    ++ (reasons_text (spelled_by Fingerprint answer.explained) asked answer.reasons
+    ++ (login_words login id ++ 10 ∷ []))))
 
 -- the line of a login, and the lines of texts that explain it
 abbrev pub login_text : Bool → List ℕ → ℕ → Reported → (id : List ℕ) → Subject → Answer → List ℕ
 login_text coloured name number login id asked answer =
-    login_line coloured name number login id asked answer.reasons
+    login_line coloured name number login id asked answer
     ++ explained_if Fingerprint asked answer.explained
 
 -- the line for a line or a log that is not read, in colour or not

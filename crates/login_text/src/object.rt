@@ -10,7 +10,9 @@ ghost use Rattle.login_text.specs.Text.{answer_of};
 
 use crate::text::{LoginVerdict, write_login, write_unread};
 use crate::why::{LoginWhy, Named as FaultOf};
-use audit_text::{CertOf, ExplainedOf, Fingerprint, Format, Location, ReasonsOf, status_word};
+use audit_text::{
+    CertOf, ExplainedOf, Fingerprint, Format, Location, ReasonsOf, Spelling, status_word,
+};
 use json_lines::{Array, Fields, LineWriter, Text, fields, object, put_fields};
 use krl_fingerprints::KeysBy;
 use line_pieces::put;
@@ -66,6 +68,7 @@ fn write_login_object(
     let by = KeysBy::Fingerprint;
     let subject = verdict.subject;
     let login = verdict.login;
+    let spelling = Spelling::explained(by, verdict.explanation);
     object!(line; location,
         "status": status_word(verdict.reasons),
         "type": Text(login.key.kind),
@@ -75,7 +78,7 @@ fn write_login_object(
         Prefix(login.prefix),
         "step": step_word(login.step),
         CertOf(by, &subject.cert),
-        "reasons": Array(ReasonsOf(by, subject, verdict.reasons)),
+        "reasons": Array(ReasonsOf(spelling, subject, verdict.reasons)),
         ExplainedOf(by, subject, verdict.explanation))
 }
 

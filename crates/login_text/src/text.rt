@@ -8,7 +8,9 @@ ghost use Rattle.login_text.specs.Text.{answer_of, login_line, login_text, unrea
 ghost use Rattle.login_text.specs.Text.{id_words};
 
 use crate::why::LoginWhy;
-use audit_text::{KeyPrint, Location, ReasonWords, push_explained, unread_mark, verdict_mark};
+use audit_text::{
+    KeyPrint, Location, ReasonWords, Spelling, push_explained, unread_mark, verdict_mark,
+};
 use krl_entries::Reasons;
 use krl_fingerprints::KeysBy;
 use krl_types::Subject;
@@ -85,7 +87,7 @@ fn write_login_line(
 ) -> Result<(), AllocError>
     ensures { OnOk result (line.new.items ≡ login_line coloured location.entry.name.now
         location.entry.number (reported_of verdict.now.login.now) verdict.now.id.now
-        verdict.now.subject.now verdict.now.reasons) }
+        verdict.now.subject.now (answer_of verdict.now)) }
 {
     let by = KeysBy::Fingerprint;
     let LoginVerdict {
@@ -93,13 +95,14 @@ fn write_login_line(
         id,
         subject,
         reasons,
-        ..
+        explanation,
     } = *verdict;
+    let spelling = Spelling::explained(by, explanation);
     let key = subject.plain.as_slice();
     line.clear();
     put!(line; location, verdict_mark(coloured, reasons.any()),
         pieces!(Words(login.key.kind), b" ", KeyPrint { alloc, by, key }),
-        ReasonWords { alloc, by, subject, reasons },
+        ReasonWords { alloc, spelling, subject, reasons },
         pieces!(b": ", Visible(login.user, false), b" from ", Visible(login.address, false),
         IdOf(login.certificate.is_some(), id)), b"\n")
 }

@@ -10,6 +10,7 @@ use Rattle.std.specs.List.{list_all}
 use Rattle.std.specs.Map.{lookup}
 use Rattle.std.specs.Ordering.{nat_cmp}
 use Rattle.std.specs.Str.{bytes_eq}
+use Rattle.sha2.specs.Sha256.{sha256}
 use Rattle.ssh_wire.specs.Ascii.{dot, hyphen, underscore}
 use Rattle.text_entries.specs.Values.{is_all}
 use Rattle.text_entries.specs.declared.text_cause.TextCause.{TextCause}
@@ -45,6 +46,10 @@ or_named None key name other = if bytes_eq other key then Some name else None
 unfoldable pub name_of : NamedKeys → NameOfKey
 name_of [] key = None
 name_of (entry ∷ names) key = if bytes_eq key entry.1 then Some entry.0 else name_of names key
+
+-- the names, each with the SHA-256 of its key
+abbrev pub printed_names : NamedKeys → NamedKeys
+printed_names names = map (λ entry. (entry.0, sha256 entry.1)) names
 
 -- ---- a name that a line gives
 

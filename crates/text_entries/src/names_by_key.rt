@@ -1,16 +1,18 @@
 //! The names of certificate authorities, by their keys.
 
 ghost use Rattle.std.specs.Prelude.{◌≡◌, ℕ, List, [], IfOk, OnOk, MatchOption, None, Some};
-ghost use Rattle.text_entries.specs.AuthorityNames.{key_named, name_of, or_named, with_name};
+ghost use Rattle.text_entries.specs.AuthorityNames.{key_named, name_of, or_named, printed_names};
+ghost use Rattle.text_entries.specs.AuthorityNames.{with_name};
 
 use crate::authority_names::AuthorityNames;
+use sha2::{Digest, Sha256};
 use ssh_wire::Bytes;
 use std::alloc::{AllocError, Global};
 use std::collections::BTreeMap;
 use std::marker::Model;
 
-/// The names of certificate authorities, by the bytes of their keys: of each key the first one in
-/// the order of names.
+/// The names of certificate authorities, by the bytes of their keys, or by the SHA-256 of these: of
+/// each key the first one in the order of names.
 #[derive(Drop)]
 pub struct NamesByKey {
     alloc: Global,
@@ -79,6 +81,17 @@ impl AuthorityNames {
         let mut names = NamesByKey::new(self.alloc);
         for (name, key) in self.keys.iter() {
             names.add(key.as_slice(), name)?;
+        }
+        Ok(names)
+    }
+    /// These names, by the SHA-256 of the keys that they have.
+    pub fn by_fingerprint(&self) -> Result<NamesByKey, AllocError>
+        ensures { (print : List ℕ) → IfOk result
+            (λ names. key_named names print ≡ name_of (printed_names self.now) print) }
+    {
+        let mut names = NamesByKey::new(self.alloc);
+        for (name, key) in self.keys.iter() {
+            names.add(&Sha256::digest(key.as_slice()), name)?;
         }
         Ok(names)
     }

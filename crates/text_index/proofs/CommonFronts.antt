@@ -1,10 +1,8 @@
 -- The fronts of serial numbers.
-use Rattle.std.proofs.Common.{◌≡◌, ℕ, zero, suc, ◌+◌, ◌<◌, ◌≤◌, ◌/◌, ◌^◌, ◌*◌, ◌-◌, ◌||◌, ◌⊎◌, ◌==◌, nat_eq, Bool, false, List, [], ◌∷◌, map, true, refl, sym, ap, subst, ◌∙◌, arith, ⊎_elim, if◌then◌else◌, bytes_eq}
-use Rattle.std.specs.Int.{to_be_bytes, w64}
+use Rattle.std.proofs.Common.{◌≡◌, ℕ, zero, suc, ◌+◌, ◌<◌, ◌≤◌, ◌/◌, ◌^◌, ◌*◌, ◌-◌, ◌||◌, ◌⊎◌, ◌==◌, nat_eq, Bool, false, [], ◌∷◌, true, refl, sym, ap, subst, ◌∙◌, arith, ⊎_elim, if◌then◌else◌}
 use Rattle.std.specs.List.{list_any}
 use Rattle.std.proofs.Math.Nat.{pow-suc}
-use Rattle.std.proofs.lemmas.Bool.{eq-eqb, eqb-true, ne_eqb, false≢true, or_cases, or_left, or_right}
-use Rattle.std.proofs.lemmas.Slice.Eq.{bytes_eq-Decides}
+use Rattle.std.proofs.lemmas.Bool.{eq-eqb, ne_eqb, or_left, or_right}
 use Rattle.text_index.specs.Fronts.{IsCommonFront, front, fronts}
 
 -- ---- one front
@@ -88,20 +86,10 @@ front_among (suc few) (suc bits) (suc n) le =
     let later = or_right (nat_eq (front few (suc n / 2)) (suc n)) (list_any (nat_eq (front few (suc n / 2))) (fronts bits (suc n / 2))) (front_among few bits (suc n / 2) (omega (arith, le))) in
     subst (λ (b : Bool). (nat_eq (front few (suc n / 2)) (suc n) || list_any (nat_eq (front few (suc n / 2))) (if b then [] else fronts bits (suc n / 2))) ≡ true) (sym (not_zero n)) later
 
-bytes_among : (f : ℕ → List ℕ) (x : ℕ) (xs : List ℕ) → list_any (nat_eq x) xs ≡ true → list_any (bytes_eq (f x)) (map f xs) ≡ true
-bytes_among f x [] any = absurd (false≢true any)
-bytes_among f x (y ∷ ys) any =
-    ⊎_elim
-    (λ (same : nat_eq x y ≡ true). or_left (bytes_eq (f x) (f y)) _ ((bytes_eq-Decides (f x) (f y)).1 (ap f (eqb-true x y same))))
-    (λ (later : list_any (nat_eq x) ys ≡ true). or_right (bytes_eq (f x) (f y)) _ (bytes_among f x ys later))
-    (or_cases (nat_eq x y) (list_any (nat_eq x) ys) any)
-
 -- The front that two numbers have in common is one of each number between them.
-pub serial_has_front : (first last common s : ℕ) → IsCommonFront first last common → first ≤ s → s ≤ last
-    → list_any (bytes_eq (to_be_bytes w64 common)) (map (to_be_bytes w64) (fronts 64 s)) ≡ true
+pub serial_has_front : (first last common s : ℕ) → IsCommonFront first last common → first ≤ s → s ≤ last → list_any (nat_eq common) (fronts 64 s) ≡ true
 serial_has_front first last common s is low high =
     let below = front_rises is.bits first s low in
     let above = front_rises is.bits s last high in
     let same : front is.bits s ≡ common = omega (arith, is.of_first, is.of_last, below, above) in
-    bytes_among (to_be_bytes w64) common (fronts 64 s)
-    (subst (λ (n : ℕ). list_any (nat_eq n) (fronts 64 s) ≡ true) same (front_among is.bits 64 s is.few))
+    subst (λ (n : ℕ). list_any (nat_eq n) (fronts 64 s) ≡ true) same (front_among is.bits 64 s is.few)

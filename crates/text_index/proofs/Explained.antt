@@ -7,15 +7,16 @@ use Rattle.std.specs.List.{list_any}
 use Rattle.std.specs.List.Sorted.{IsStrictlySortedBy}
 use Rattle.std.specs.Ordering.{nat_cmp}
 use Rattle.std.proofs.lemmas.Bool.Decides.{nat_tests}
-use Rattle.krl_types.specs.Subject.{Subject}
+use Rattle.krl_types.specs.Subject.{CertNames, Subject}
 use Rattle.krl_entries.specs.Reasons.{bits_in, every_reason, has_reason, name_asked, with_bit}
 use Rattle.krl_entries.specs.declared.reasons.Reason.{Reason}
 use Rattle.krl_entries.specs.declared.reasons.Reasons.{Reasons}
 use Rattle.krl_entries.proofs.ReasonBits.{next_bit}
-use Rattle.text_index.specs.Explaining.{Explained, explained_by, explained_of, explaining, unnamed_by}
+use Rattle.text_entries.specs.AuthorityNames.{NameOfKey, key_named}
+use Rattle.text_index.specs.Explaining.{Explained, authority_name, explained_by, explained_of, explaining, unnamed_by}
 use Rattle.text_index.specs.Found.{FindsAll, FindsAsked, FindsSome, finds_reason, lacks_reason}
-use Rattle.text_index.specs.Indexing.{Indexes, line_of}
-use Rattle.text_index.specs.NamingLines.{Line, NamingLine}
+use Rattle.text_index.specs.Indexing.{HasRegister, Indexes, line_of}
+use Rattle.text_index.specs.NamingLines.{Line, NamingLine, Register}
 use Rattle.text_index.specs.declared.explaining.Explanation.{Explanation}
 use Rattle.text_index.specs.declared.indexing.TextIndex.{TextIndex}
 use Rattle.text_index.specs.declared.name_index.NameIndex.{NameIndex}
@@ -29,17 +30,27 @@ use Rattle.text_index.proofs.ReasonNames.{finds_is, unnamed_is}
 pub explained : (index : TextIndex) (asked : Subject) (reasons : Reasons) (explanation : Explanation) (found : List ℕ)
     → FindsAll index.names asked reasons explanation.unnamed [] found → IsStrictlySortedBy nat_cmp found
     → explanation.lines.items ≡ filter_map (slice_get index.lines.items) found
-    → (lines : List NamingLine) → Indexes index lines → explained_of explanation ≡ explained_by lines asked reasons
-explained index asked reasons explanation found finds sorted are lines is =
+    → explanation.authority ≡ authority_name (key_named index.authorities) asked.cert
+    → (texts : Register) → HasRegister index texts → explained_of explanation ≡ explained_by texts asked reasons
+explained index asked reasons explanation found finds sorted are named texts has =
+    let is : Indexes index texts.lines = has.lines in
+    let lines : List NamingLine = texts.lines in
     let chosen : map line_of explanation.lines.items ≡ map (λ (line : NamingLine). line.line) (explaining lines asked reasons) =
     ap (map line_of) are
     ∙ lines_chosen asked reasons index.lines.items is.said found is.one_each sorted (λ i. finds.at_each i ∙ finds_is index lines is asked reasons i)
     ∙ ap (λ (all : List NamingLine). map (λ (line : NamingLine). line.line) (explaining all asked reasons)) (sym is.lines_are) in
     let unnamed : explanation.unnamed ≡ unnamed_by lines asked reasons = unnamed_is index lines asked reasons explanation.unnamed is finds.bits_are in
-    ap (λ (some : List Line). explained_with some explanation.unnamed) chosen ∙ ap (explained_with (map (λ (line : NamingLine). line.line) (explaining lines asked reasons))) unnamed
+    let chosen_lines : List Line = map (λ (line : NamingLine). line.line) (explaining lines asked reasons) in
+    ap (λ (some : List Line). explained_with some explanation.unnamed explanation.authority) chosen
+    ∙ ap (λ (some : Reasons). explained_with chosen_lines some explanation.authority) unnamed
+    ∙ ap (explained_with chosen_lines (unnamed_by lines asked reasons)) (named ∙ same_name (key_named index.authorities) texts.names has.named asked.cert)
   where
-    explained_with : List Line → Reasons → Explained
-    explained_with lines unnamed = record { lines = lines; unnamed = unnamed }
+    explained_with : List Line → Reasons → Option (List ℕ) → Explained
+    explained_with lines unnamed authority = record { lines = lines; unnamed = unnamed; authority = authority }
+
+    same_name : (one other : NameOfKey) → ((key : List ℕ) → one key ≡ other key) → (cert : Option CertNames) → authority_name one cert ≡ authority_name other cert
+    same_name one other same None = refl
+    same_name one other same (Some cert) = same cert.authority
 
 -- ---- a number that is inserted
 

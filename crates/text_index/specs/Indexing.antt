@@ -6,6 +6,7 @@ use Rattle.krl_types.specs.Entry.{Entry}
 use Rattle.krl_types.specs.Naming.{Name}
 use Rattle.krl_entries.specs.Tested.{entry_names}
 use Rattle.krl_fingerprints.specs.KeysBy.{entry_by}
+use Rattle.text_entries.specs.AuthorityNames.{NamedKeys, key_named}
 use Rattle.text_entries.specs.Lines.{lines_with}
 use Rattle.text_entries.specs.Says.{Saying, entry_said, standing_after}
 use Rattle.text_entries.specs.TextCause.{no_memory}
@@ -13,7 +14,8 @@ use Rattle.text_entries.specs.declared.standing.Standing.{Standing}
 use Rattle.text_entries.specs.declared.text_cause.TextCause.{TextCause}
 use Rattle.text_entries.specs.declared.text_fault.TextFault.{TextFault}
 use Rattle.text_index.specs.NameIndex.{numbers}
-use Rattle.text_index.specs.NamingLines.{Line, NamingLine, line_at, naming, naming_lines}
+use Rattle.text_index.specs.NamingLines.{Line, NamingLine, Register, line_at, naming}
+use Rattle.text_index.specs.NamingLines.{naming_lines, names_by}
 use Rattle.text_index.specs.declared.indexing.TextIndex.{TextIndex}
 use Rattle.text_index.specs.declared.text_line.TextLine.{TextLine}
 
@@ -47,12 +49,23 @@ pub record Indexes (index : TextIndex) (lines : List NamingLine) : Type 0 where
   pub found : (name : Name) (i : ℕ)
       → list_any (nat_eq i) (numbers index.names name) ≡ names_at said i name
 
+-- The index has exactly these lines, and gives authorities these names.
+pub record HasRegister (index : TextIndex) (register : Register) : Type 0 where
+  pub lines : Indexes index register.lines
+  pub named : (key : List ℕ) → key_named index.authorities key ≡ register.names key
+
 -- ---- changes
 
 -- The index has these lines behind those that it had.
 pub record IndexesMore (old new : TextIndex) (more : List NamingLine) : Type 0 where
   pub by : new.by ≡ old.by
   pub adds : (lines : List NamingLine) → Indexes old lines → Indexes new (lines ++ more)
+
+-- Authorities have these names now, and the lines stay.
+pub record NamesAuthorities (names : NamedKeys) (old new : TextIndex) : Type 0 where
+  pub by : new.by ≡ old.by
+  pub lines : (lines : List NamingLine) → Indexes old lines → Indexes new lines
+  pub named : (key : List ℕ) → key_named new.authorities key ≡ names_by old.by names key
 
 -- An allocation failed, or the line has this fault.
 abbrev pub IsCause : TextCause → Result Saying TextCause → Type 0

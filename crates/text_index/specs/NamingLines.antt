@@ -1,10 +1,12 @@
--- The lines of texts that have an entry.
+-- The lines of texts that have an entry, and the names that texts give to authorities.
 use Rattle.std.specs.Prelude.{ℕ, ◌+◌, List, [], ◌∷◌, ◌++◌, Option, Some, None, Result, Ok, Err}
 use Rattle.std.specs.List.{slice_split}
 use Rattle.key_text.specs.Lines.{is_newline}
 use Rattle.krl_types.specs.Entry.{Entry}
 use Rattle.krl_fingerprints.specs.KeysBy.{entry_by}
 use Rattle.krl_fingerprints.specs.declared.keys_by.KeysBy.{KeysBy}
+use Rattle.krl_fingerprints.specs.declared.keys_by.KeysBy.TheVariants.{Blob, Fingerprint}
+use Rattle.text_entries.specs.AuthorityNames.{NameOfKey, NamedKeys, name_of, printed_names}
 use Rattle.text_entries.specs.Lines.{beginning}
 use Rattle.text_entries.specs.Says.{Saying, entry_said, line_says, standing_after}
 use Rattle.text_entries.specs.declared.standing.Standing.{Standing}
@@ -49,3 +51,15 @@ naming_from by standing file number (text ∷ texts) =
 unfoldable pub naming_lines : KeysBy → Standing → (file text : List ℕ) → List NamingLine
 naming_lines by standing file text =
     naming_from by (beginning standing) file 1 (slice_split is_newline text)
+
+-- ---- names
+
+-- the name of each authority, for queries that give keys so
+abbrev pub names_by : KeysBy → NamedKeys → NameOfKey
+names_by Blob names = name_of names
+names_by Fingerprint names = name_of (printed_names names)
+
+-- the lines of texts that have an entry, and the names that the texts give to authorities
+pub record Register : Type 0 where
+  pub lines : List NamingLine
+  pub names : NameOfKey

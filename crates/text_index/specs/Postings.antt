@@ -1,4 +1,4 @@
--- The subjects of lines, as they are kept under keys.
+-- The subjects of lines, as they are kept.
 use Rattle.std.specs.Prelude.{ℕ, List}
 use Rattle.krl_types.specs.Entry.{Entry, RangeEntry}
 use Rattle.krl_types.specs.Item.{item_entry}
@@ -13,13 +13,13 @@ use Rattle.text_index.specs.declared.posting.What.TheVariants as whats
 abbrev pub posting_with : (line : ℕ) → (authority : List ℕ) → What → Posting
 posting_with line authority what = record { line = line; authority = authority; what = what }
 
-abbrev pub what_entry : What → (authority key : List ℕ) → Entry
-what_entry (whats.Serials span) authority key = RangeEntry authority span.lo span.hi
-what_entry (whats.Item kind) authority key = item_entry kind authority key
+abbrev pub what_entry : What → (authority : List ℕ) → Entry
+what_entry (whats.Serials span) authority = RangeEntry authority span.lo span.hi
+what_entry (whats.Item kind item) authority = item_entry kind authority item
 
--- what a posting names under this key, as an entry
-abbrev pub entry_at : (key : List ℕ) → Posting → Entry
-entry_at key posting = what_entry posting.what posting.authority key
+-- what a posting names, as an entry
+abbrev pub entry_of : Posting → Entry
+entry_of posting = what_entry posting.what posting.authority
 
 abbrev pub sought_name : Sought → Name
 sought_name (sought.Serial authority serial) = SerialOf authority.now serial

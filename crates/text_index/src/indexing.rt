@@ -3,7 +3,7 @@
 ghost use Rattle.std.specs.Prelude.{◌≡◌, ◌++◌, ◌∷◌, [], OnOk};
 ghost use Rattle.text_entries.specs.Lines.{beginning};
 ghost use Rattle.text_entries.specs.Says.{line_says};
-ghost use Rattle.text_index.specs.Indexing.{IndexesLine, IndexesText, Indexes};
+ghost use Rattle.text_index.specs.Indexing.{IndexesLine, IndexesText, Indexes, NamesAuthorities};
 
 use crate::name_index::NameIndex;
 use crate::text_line::TextLine;
@@ -12,15 +12,16 @@ use krl_entries::Revocations;
 use krl_fingerprints::{KeysBy, list_by};
 use span_sets::Held;
 use std::alloc::{AllocError, Global};
-use text_entries::{Standing, TextCause, TextFault, read_text, take_line};
+use text_entries::{NamesByKey, Standing, TextCause, TextFault, read_text, take_line};
 
 /// Texts by what their lines name. Contracts see the lines that have an entry, each with its entry,
-/// in the order of the texts.
+/// in the order of the texts, and the names of authorities.
 #[derive(Drop)]
 pub struct TextIndex<'t> {
     pub(crate) by: KeysBy,
     pub(crate) lines: Vec<TextLine<'t>>,
     pub(crate) names: NameIndex,
+    pub(crate) authorities: NamesByKey,
 }
 
 impl<'t> TextIndex<'t> {
@@ -33,6 +34,7 @@ impl<'t> TextIndex<'t> {
             by,
             lines: Vec::new(alloc),
             names: NameIndex::new(alloc),
+            authorities: NamesByKey::new(alloc),
         }
     }
 
@@ -80,6 +82,18 @@ impl<'t> TextIndex<'t> {
             rest = after;
             passed = number;
         }
+    }
+
+    /// Gives authorities the names that stand behind the texts. Fails only if an allocation fails.
+    pub fn name_authorities(&mut self, standing: &Standing) -> Result<(), AllocError>
+        ensures { OnOk result (NamesAuthorities standing.now.names self.old self.new) }
+    {
+        let names = standing.names();
+        self.authorities = match self.by {
+            KeysBy::Blob => names.by_key()?,
+            KeysBy::Fingerprint => names.by_fingerprint()?,
+        };
+        Ok(())
     }
 
     // Adds a line behind those before it, if it has no fault.

@@ -7,7 +7,7 @@ ghost use Rattle.krl_entries.specs.Named.{item_name, named};
 ghost use Rattle.krl_entries.specs.Tested.{some_names};
 ghost use Rattle.krl_fingerprints.specs.Facts.{fact_entries};
 ghost use Rattle.krl_types.specs.Naming.{Name as NameOf, SerialOf};
-ghost use Rattle.text_index.specs.NameIndex.{AddsNames, Puts, numbers, numbers_at};
+ghost use Rattle.text_index.specs.NameIndex.{AddsNames, Puts, item_key, numbers, numbers_at};
 ghost use Rattle.text_index.specs.Postings.{sought_name};
 
 use crate::fronts::common_front;
@@ -17,15 +17,17 @@ use krl_types::ItemKind;
 use sha1::Sha1;
 use sha2::{Digest, Sha256};
 use span_sets::Held;
+use ssh_wire::Bytes;
 use std::alloc::{AllocError, Global};
 use std::collections::BTreeMap;
 use std::marker::Model;
 
-/// A map to lines from what they name. An item is under its bytes, and serial numbers are under the
-/// front that they have in common.
+/// A map to lines from what they name. An item is under the first eight bytes of its SHA-256, and
+/// serial numbers are under the front that they have in common. Numbers are compared faster than the
+/// bytes of items, of which many begin alike.
 #[derive(Drop)]
 pub struct NameIndex {
-    pub(crate) places: BTreeMap<Vec<u8>, Vec<Posting>>,
+    pub(crate) places: BTreeMap<u64, Vec<Posting>>,
 }
 
 impl Model for NameIndex {
@@ -71,29 +73,26 @@ impl NameIndex {
             Fact::Authority(_) => Ok(()),
             Fact::Serials(authority, span) => {
                 let posting = Posting::new(alloc, line, authority, What::Serials(span))?;
-                self.put(
-                    alloc,
-                    &common_front(span.lo, span.hi).to_be_bytes(),
-                    posting,
-                )
+                self.put(alloc, common_front(span.lo, span.hi), posting)
             }
             Fact::Item(kind, authority, bytes) => {
-                let posting = Posting::new(alloc, line, authority, What::Item(kind))?;
-                self.put(alloc, bytes, posting)
+                let copy = Vec::from_slice(alloc, bytes)?;
+                let what = What::Item(kind, Bytes::from_vec(copy));
+                let posting = Posting::new(alloc, line, authority, what)?;
+                self.put(alloc, item_key(bytes), posting)
             }
         }
     }
 
     // Puts a posting behind those that the key has.
-    fn put(&mut self, alloc: Global, key: &[u8], posting: Posting) -> Result<(), AllocError>
-        ensures { OnOk result (Puts key.now posting self.old self.new) }
+    fn put(&mut self, alloc: Global, key: u64, posting: Posting) -> Result<(), AllocError>
+        ensures { OnOk result (Puts key posting self.old self.new) }
     {
-        if let Some(postings) = self.places.get_mut(key) {
+        if let Some(postings) = self.places.get_mut(&key) {
             return push(postings, posting);
         }
         let mut postings = Vec::with_capacity(alloc, 1)?;
         push(&mut postings, posting)?;
-        let key = Vec::from_slice(alloc, key)?;
         self.places.insert(key, postings)?;
         Ok(())
     }
@@ -125,7 +124,11 @@ impl NameIndex {
             lines.items ≡ numbers self.now (item_name kind authority.now item.now)) }
     {
         let mut lines = Vec::new(alloc);
-        self.gather(item, Sought::Item(kind, authority, item), &mut lines)?;
+        self.gather(
+            item_key(item),
+            Sought::Item(kind, authority, item),
+            &mut lines,
+        )?;
         Ok(lines)
     }
 
@@ -143,11 +146,7 @@ impl NameIndex {
         let mut front = serial;
         let mut bits = 64u64;
         'cutting: loop {
-            self.gather(
-                &front.to_be_bytes(),
-                Sought::Serial(authority, serial),
-                &mut lines,
-            )?;
+            self.gather(front, Sought::Serial(authority, serial), &mut lines)?;
             if front == 0 || bits == 0 {
                 return Ok(lines);
             }
@@ -157,25 +156,30 @@ impl NameIndex {
     }
 
     // Adds the numbers of the lines that have the name and are at this key.
-    fn gather(
-        &self,
-        key: &[u8],
-        sought: Sought<'_>,
-        lines: &mut Vec<usize>,
-    ) -> Result<(), AllocError>
+    fn gather(&self, key: u64, sought: Sought<'_>, lines: &mut Vec<usize>) -> Result<(), AllocError>
         ensures { OnOk result (lines.new.items
-            ≡ lines.old.items ++ numbers_at self.now key.now (sought_name sought.entry)) }
+            ≡ lines.old.items ++ numbers_at self.now key (sought_name sought.entry)) }
     {
-        let Some(postings) = self.places.get(key) else {
+        let Some(postings) = self.places.get(&key) else {
             return Ok(());
         };
         'postings: for posting in postings {
-            if posting.names(key, sought) {
+            if posting.names(sought) {
                 lines.push(posting.line)?;
             }
         }
         Ok(())
     }
+}
+
+// The number under which an item is kept.
+fn item_key(item: &[u8]) -> u64
+    ensures { result ≡ item_key item.now }
+{
+    let print = Sha256::digest(item);
+    u64::from_be_bytes([
+        print[0], print[1], print[2], print[3], print[4], print[5], print[6], print[7],
+    ])
 }
 
 // Puts a posting behind others.

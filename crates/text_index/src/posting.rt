@@ -1,24 +1,26 @@
-//! What a line names, as it is kept under a key.
+//! What a line names, as it is kept under a number.
 
 ghost use Rattle.std.specs.Prelude.{◌≡◌, IfOk};
+ghost use Rattle.krl_entries.specs.Named.{item_name};
 ghost use Rattle.krl_entries.specs.Tested.{entry_names};
-ghost use Rattle.text_index.specs.Postings.{entry_at, posting_with, sought_name, what_entry};
+ghost use Rattle.krl_types.specs.Item.{item_entry};
+ghost use Rattle.text_index.specs.Postings.{entry_of, posting_with, sought_name};
 
 use krl_types::ItemKind;
 use serial_set::Span;
 use ssh_wire::Bytes;
 use std::alloc::{AllocError, Global};
 
-/// The subject of a line, apart from the authority and from the bytes that are the key.
-#[derive(Clone, Copy)]
+/// The subject of a line, apart from the authority.
+#[derive(Drop)]
 pub enum What {
-    /// Serial numbers. The key is a front of them.
+    /// Serial numbers.
     Serials(Span),
-    /// An item, whose bytes are the key.
-    Item(ItemKind),
+    /// An item with its bytes.
+    Item(ItemKind, Bytes),
 }
 
-/// A line with what it names under a key.
+/// A line with what it names.
 #[derive(Drop)]
 pub struct Posting {
     /// The number of the line among all lines, counted from 0.
@@ -56,22 +58,40 @@ impl Posting {
         })
     }
 
-    // Whether the line, kept under this key, has the name that is looked up.
-    pub(crate) fn names(&self, key: &[u8], sought: Sought<'_>) -> bool
-        ensures { result ≡ entry_names (entry_at key.now self.now) (sought_name sought.entry) }
+    // Whether the line has the name that is looked up.
+    pub(crate) fn names(&self, sought: Sought<'_>) -> bool
+        ensures { result ≡ entry_names (entry_of self.now) (sought_name sought.entry) }
     {
         let own = self.authority.as_slice();
-        match (self.what, sought) {
+        match (&self.what, sought) {
             (What::Serials(span), Sought::Serial(authority, serial)) => {
                 own == authority && 0 < serial && span.lo <= serial && serial <= span.hi
             }
-            (What::Item(ItemKind::Id), Sought::Item(ItemKind::Id, authority, item)) => {
-                own == authority && key == item
+            (What::Item(kind, item), Sought::Item(sought, authority, other)) => {
+                is_item(*kind, own, item.as_slice(), sought, authority, other)
             }
-            (What::Item(ItemKind::Key), Sought::Item(ItemKind::Key, _, item)) => key == item,
-            (What::Item(ItemKind::Sha1), Sought::Item(ItemKind::Sha1, _, item)) => key == item,
-            (What::Item(ItemKind::Sha256), Sought::Item(ItemKind::Sha256, _, item)) => key == item,
             _ => false,
         }
+    }
+}
+
+// Whether two items are one. Only a key ID has an authority.
+fn is_item(
+    kind: ItemKind,
+    own: &[u8],
+    item: &[u8],
+    sought: ItemKind,
+    authority: &[u8],
+    other: &[u8],
+) -> bool
+    ensures { result ≡ entry_names (item_entry kind own.now item.now)
+        (item_name sought authority.now other.now) }
+{
+    match (kind, sought) {
+        (ItemKind::Id, ItemKind::Id) => own == authority && item == other,
+        (ItemKind::Key, ItemKind::Key)
+        | (ItemKind::Sha1, ItemKind::Sha1)
+        | (ItemKind::Sha256, ItemKind::Sha256) => item == other,
+        _ => false,
     }
 }

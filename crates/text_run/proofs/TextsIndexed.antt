@@ -11,12 +11,12 @@ use Rattle.text_entries.specs.Says.{first_standing}
 use Rattle.text_entries.specs.declared.standing.Standing.{Standing}
 use Rattle.text_entries.specs.declared.text_cause.TextCause.{TextCause}
 use Rattle.text_entries.specs.declared.text_cause.TextCause.TheVariants as text_causes
-use Rattle.text_index.specs.Indexing.{Indexes, IndexesText as Indexed, IsFault}
-use Rattle.text_index.specs.NamingLines.{NamingLine, naming_lines}
+use Rattle.text_index.specs.Indexing.{Indexes, IndexesText as Indexed, IsFault, NamesAuthorities}
+use Rattle.text_index.specs.NamingLines.{NamingLine, naming_lines, names_by}
 use Rattle.text_index.specs.declared.indexing.TextIndex.{TextIndex}
-use Rattle.text_run.specs.Fault.{MakeFault, line_fault}
+use Rattle.text_run.specs.Fault.{line_fault}
 use Rattle.text_run.specs.Indexed.{IndexesText, IndexesTexts, bytes_named, text_named, texts_named}
-use Rattle.text_run.specs.Making.{IsMakeFault, Text, TextEntries, bytes_from, text_from}
+use Rattle.text_run.specs.Making.{IsMakeFault, Text, bytes_from, text_from}
 use Rattle.text_run.proofs.TextsAdded.{AreRead, all_read, none_read, text_read}
 
 abbrev entry_of : NamingLine → Entry
@@ -96,13 +96,17 @@ text_indexed by today texts text left standing after mid new at added =
           entries_are = map-append entry_of at.lines some ∙ ap (λ (es : List Entry). es ++ map entry_of some) at.entries_are ∙ ap (λ (es : List Entry). entries_by by at.are.entries ++ es) (entries ∙ ap (λ (b : KeysBy). entries_by b given.entries) at.by_is) ∙ sym (append_by by at.are.entries given.entries);
         })
 
-pub all_indexed : (by : KeysBy) (today : ℕ) (texts : List Text) (standing : Standing) (index : TextIndex) → AreIndexed by today texts [] standing index → IndexesTexts by today texts index
-all_indexed by today texts standing index at =
+pub all_indexed : (by : KeysBy) (today : ℕ) (texts : List Text) (standing : Standing) (index named : TextIndex) → AreIndexed by today texts [] standing index
+    → NamesAuthorities standing.names index named → IndexesTexts by today texts named
+all_indexed by today texts standing index named at names =
     let first = first_standing today in
     let lines_are : at.lines ≡ texts_named by first texts = sym (append-nil at.lines) ∙ sym (at.named []) ∙ ap (texts_named by first) (sym at.are.parts) in
     record {
       given = record { entries = at.are.entries; standing = standing };
       read = all_read today texts standing at.are;
-      indexed = subst (λ (lines : List NamingLine). Indexes index lines) lines_are at.indexed;
+      indexed = record {
+        lines = subst (λ (lines : List NamingLine). Indexes named lines) lines_are (names.lines at.lines at.indexed);
+        named = λ key. names.named key ∙ ap (λ (b : KeysBy). names_by b standing.names key) at.by_is;
+      };
       entries_are = ap (map entry_of) (sym lines_are) ∙ at.entries_are;
     }

@@ -1,4 +1,4 @@
--- The lines of texts that name something.
+-- The lines of texts that name something, and the names that texts give to authorities.
 use Rattle.std.specs.Prelude.{◌≡◌, ℕ, List, [], ◌∷◌, ◌++◌, map, Result, Ok, Err}
 use Rattle.krl_fingerprints.specs.KeysBy.{entries_by}
 use Rattle.krl_fingerprints.specs.declared.keys_by.KeysBy.{KeysBy}
@@ -6,8 +6,8 @@ use Rattle.run_faults.specs.declared.cause.Cause.{Cause}
 use Rattle.text_entries.specs.Lines.{lines_with}
 use Rattle.text_entries.specs.Says.{first_standing}
 use Rattle.text_entries.specs.declared.standing.Standing.{Standing}
-use Rattle.text_index.specs.Indexing.{Indexes, IndexesMore}
-use Rattle.text_index.specs.NamingLines.{NamingLine, naming_lines}
+use Rattle.text_index.specs.Indexing.{HasRegister, IndexesMore}
+use Rattle.text_index.specs.NamingLines.{NamingLine, Register, naming_lines, names_by}
 use Rattle.text_index.specs.declared.indexing.TextIndex.{TextIndex}
 use Rattle.text_run.specs.Fault.{MakeFault}
 use Rattle.text_run.specs.Making.{IsMakeFault, Text, TextEntries, texts_on}
@@ -40,13 +40,22 @@ texts_named by standing [] = []
 texts_named by standing (text ∷ texts) =
     let first = text_named by standing text in first.lines ++ texts_named by first.standing texts
 
--- The texts have no fault on this day, and the index has exactly their lines that name something.
--- The entries of these lines are those that are read, for queries that give keys so.
+-- the lines of all texts that name something on this day, and the names of authorities, of which
+-- this stands behind the texts
+abbrev pub register_of : KeysBy → (today : ℕ) → List Text → Standing → Register
+register_of by today texts behind = record {
+  lines = texts_named by (first_standing today) texts;
+  names = names_by by behind.names;
+}
+
+-- The texts have no fault on this day, and the index has exactly their lines that name something,
+-- and the names of authorities that stand behind the texts. The entries of these lines are those
+-- that are read, for queries that give keys so.
 pub record IndexesTexts (by : KeysBy) (today : ℕ) (texts : List Text) (index : TextIndex)
     : Type 0 where
   pub given : TextEntries
   pub read : texts_on today texts ≡ Ok given
-  pub indexed : Indexes index (texts_named by (first_standing today) texts)
+  pub indexed : HasRegister index (register_of by today texts given.standing)
   pub entries_are : map (λ line. line.entry) (texts_named by (first_standing today) texts)
       ≡ entries_by by given.entries
 

@@ -1,20 +1,23 @@
-//! The lines of texts, by what they name.
+//! The lines of texts, by what they name, and the names of authorities.
 
 ghost use Rattle.std.specs.Prelude.{◌≡◌, IfErr, IfOk};
 ghost use Rattle.text_run.specs.Indexed.{IndexesText, IndexesTexts, bytes_named, text_named};
-ghost use Rattle.text_run.specs.Making.{IsUnread, bytes_from, day_at, text_from};
+ghost use Rattle.text_run.specs.Making.{IsUnnamed, bytes_from, day_at, text_from};
 
 use crate::inputs::day_of;
 use crate::make_fault::{MakeCause, MakeFault, line_fault};
+use crate::names::MEMORY;
 use crate::text::Text;
 use krl_fingerprints::KeysBy;
+use run_faults::Cause;
 use std::alloc::Global;
 use text_entries::Standing;
 use text_index::TextIndex;
 use text_index::laws::lines_have_what_is_read;
 
-/// The lines of texts by what they name, for queries that give keys so, or the first fault of the
-/// texts. The date, in seconds since 1970, decides which of the lines are over.
+/// The lines of texts by what they name, and the names that the texts give to authorities, for
+/// queries that give keys so, or the first fault of the texts. The date, in seconds since 1970,
+/// decides which of the lines are over.
 pub fn index_in<'a>(
     alloc: Global,
     by: KeysBy,
@@ -22,14 +25,17 @@ pub fn index_in<'a>(
     texts: &'a [Text<'a>],
 ) -> Result<TextIndex<'a>, MakeFault<'a>>
     ensures indexed { IfOk result (IndexesTexts by (day_at date) texts.now) }
-    ensures refused { IfErr result (IsUnread (day_at date) texts.now) }
+    ensures refused { IfErr result (IsUnnamed (day_at date) texts.now) }
 {
     let mut index = TextIndex::new(alloc, by);
     let mut standing = Standing::new(alloc, day_of(date));
     for text in texts {
         index_text(alloc, &mut index, &mut standing, text)?;
     }
-    Ok(index)
+    match index.name_authorities(&standing) {
+        Ok(()) => Ok(index),
+        Err(_) => Err(MakeFault::whole(MEMORY, MakeCause::Run(Cause::NoMemory))),
+    }
 }
 
 // Adds the lines of a text behind those of others.

@@ -18,7 +18,7 @@ use std::alloc::Global;
 use text_entries::{NamesByKey, Standing};
 
 // The name in the fault of names for which there is no memory.
-const MEMORY: &str = "memory";
+pub(crate) const MEMORY: &str = "memory";
 
 /// The names that texts give to authorities, by their keys, or the first fault of the texts. The
 /// date, in seconds since 1970, decides which of their lines are over. Nothing is kept of entries.

@@ -18,7 +18,7 @@ class Run:
         return self.words[0] == "-k"
 
     def audits(self):
-        return self.words[0] == "audit"
+        return self.words[0] in ("audit", "logins")
 
 
 # A number that is so long that its text needs an allocation.
@@ -94,6 +94,13 @@ KRL_RUNS = [
     Run(
         "an audit by a text that is wrong",
         "audit -t whole.txt -t wrong.txt g.pub",
+        is_patient=False,
+        environment=EPOCH,
+    ),
+    Run("a search of logins", "logins -a -f logins.krl auth.log", is_patient=False),
+    Run(
+        "a search of logins that texts explain, as objects",
+        "logins --json -f logins.krl -t whole.txt -t more.txt auth.log",
         is_patient=False,
         environment=EPOCH,
     ),

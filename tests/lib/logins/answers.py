@@ -47,23 +47,27 @@ class Asked:
         return [at for at, it in enumerate(found) if it]
 
 
-def word(login, reason):
+def word(login, reason, names):
     if reason < 4:
         return WORDS[reason]
-    of = "of all CAs" if reason % 2 else "of CA " + login.authority
+    of = "of CA " + names.get(login.authority, login.authority)
+    of = "of all CAs" if reason % 2 else of
     if reason < 6:
         return "serial %d %s" % (login.serial, of)
     return 'key ID "%s" %s' % (visible(login.key_id, '"\\'), of)
 
 
-def words(login, reasons):
-    return "by " + ", by ".join(word(login, it) for it in reasons)
+def words(login, reasons, names):
+    """In words. An authority has its name, if it has one, and otherwise its fingerprint."""
+    return "by " + ", by ".join(word(login, it, names) for it in reasons)
 
 
-def objects(login, reasons):
+def objects(login, reasons, names):
     some = []
     for reason in reasons:
         authority = {"authority": "all" if reason % 2 else login.authority}
+        if reason % 2 == 0 and login.authority in names:
+            authority["name"] = names[login.authority]
         if reason < 4:
             some.append(OBJECTS[reason])
         elif reason < 6:
@@ -74,10 +78,12 @@ def objects(login, reasons):
 
 
 class Finding:
-    """A line that reports something. The entries are those of texts, if there are any."""
+    """A line that reports something. The entries are those of texts, if there are any, and the
+    names those that they give to authorities, by the fingerprints of these."""
 
-    def __init__(self, file, number, report, asked, entries):
+    def __init__(self, file, number, report, asked, entries, names):
         self.file, self.number, self.why, self.explained = file, number, None, None
+        self.names = names
         if isinstance(report, str):
             self.why, self.status = report, "unread"
             return
@@ -89,13 +95,19 @@ class Finding:
             named = set().union(*(some for _, some in given))
             self.explained = lines, [it for it in self.reasons if it not in named]
 
+    def authority(self):
+        """That of the certificate, if a reason has it."""
+        if self.status == "revoked" and any(it > 3 and it % 2 == 0 for it in self.reasons):
+            return self.login.authority
+        return None
+
     def lines(self):
         place = visible(self.file) + (":%d" % self.number if self.number else "")
         if self.why:
             return ["%s: unread: %s" % (place, self.why)]
         login = self.login
         line = "%s: %s: %s %s" % (place, self.status, login.kind, login.print)
-        line += " " + words(login, self.reasons) if self.reasons else ""
+        line += " " + words(login, self.reasons, self.names) if self.reasons else ""
         line += ": %s from %s" % (visible(login.user), visible(login.address))
         line += " (ID %s)" % visible(login.key_id) if login.authority else ""
         lines, unnamed = self.explained or ([], [])
@@ -104,7 +116,8 @@ class Finding:
             place = "  %s:%d: " % (visible(it.file.encode()), it.number)
             line.append(place + visible(it.written.encode()))
         if unnamed:
-            line.append("  no line of the texts names it " + words(login, unnamed))
+            unnamed = words(login, unnamed, self.names)
+            line.append("  no line of the texts names it " + unnamed)
         return line
 
     def object(self):
@@ -122,13 +135,13 @@ class Finding:
         if login.authority:
             names = {"serial": str(login.serial), **text_field("id", login.key_id)}
             it["certificate"] = {**names, "authority": login.authority}
-        it["reasons"] = objects(login, self.reasons)
+        it["reasons"] = objects(login, self.reasons, self.names)
         if self.explained:
             lines, unnamed = self.explained
             it["entries"] = [
                 {"file": it.file, "line": it.number, "text": it.written} for it in lines
             ]
-            it["unnamed"] = objects(login, unnamed)
+            it["unnamed"] = objects(login, unnamed, self.names)
         return it
 
 
@@ -153,16 +166,17 @@ class Listed:
 
 class Run:
     """A run over files, each of which is a name and its bytes, or why it is not read. With texts
-    the entries are those of their lines."""
+    the entries are those of their lines, and the names those that they give to keys."""
 
-    def __init__(self, listed, files, entries=None, options=()):
+    def __init__(self, listed, files, entries=None, names={}, options=()):
         self.listed, self.options, self.findings, self.files = listed, options, [], 0
+        names = {fingerprint(it): names[it] for it in names}
         asked = Asked(listed.named)
         if entries is not None:
             entries = [(it, Asked(it.named)) for it in entries]
         for name, content in files:
             unread = [(0, content)] if isinstance(content, str) else reports(content)
-            self.findings += [Finding(name, *it, asked, entries) for it in unread]
+            self.findings += [Finding(name, *it, asked, entries, names) for it in unread]
             self.files += 1
             if "-q" in options and self.count("revoked"):
                 break

@@ -64,30 +64,40 @@ class Subject:
             found += ids
         return [at for at, it in enumerate(found) if it]
 
-    def words(self, reasons):
-        return "by " + ", by ".join(self.word(it) for it in reasons)
+    def has_authority(self, reasons):
+        """Whether one of the reasons has the authority."""
+        return any(it >= 6 and it % 2 == 0 for it in reasons)
 
-    def word(self, reason):
+    def words(self, reasons, names):
+        """In words. An authority has its name, if it has one, and otherwise its fingerprint."""
+        return "by " + ", by ".join(self.word(it, names) for it in reasons)
+
+    def word(self, reason, names):
         if reason < 6:
             return OF_KEYS[reason]
-        of = "of all CAs" if reason % 2 else "of CA " + fingerprint(self.authority)
+        of = names.get(self.authority) or fingerprint(self.authority)
+        of = "of all CAs" if reason % 2 else "of CA " + of
         if reason < 8:
             return "serial %d %s" % (self.serial, of)
         return 'key ID "%s" %s' % (visible(self.key_id, '"\\'), of)
 
-    def objects(self, reasons):
-        return [self.object_of(it) for it in reasons]
+    def objects(self, reasons, names):
+        return [self.object_of(it, names) for it in reasons]
 
-    def object_of(self, reason):
+    def object_of(self, reason, names):
         hashes = ["key", "sha1", "sha256"]
         if reason < 3:
             return {"by": hashes[reason]}
         if reason < 6:
             return {"by": "authority", "of": hashes[reason - 3]}
-        authority = "all" if reason % 2 else fingerprint(self.authority)
+        authority = {"authority": "all"}
+        if reason % 2 == 0:
+            authority = {"authority": fingerprint(self.authority)}
+            if self.authority in names:
+                authority["name"] = names[self.authority]
         if reason < 8:
-            return {"by": "serial", "serial": str(self.serial), "authority": authority}
-        return {"by": "id", **text_field("id", self.key_id), "authority": authority}
+            return {"by": "serial", "serial": str(self.serial), **authority}
+        return {"by": "id", **text_field("id", self.key_id), **authority}
 
     def certificate(self):
         if not self.authority:
@@ -128,7 +138,7 @@ def a_subject(pool, named):
 def some_texts(pool, today):
     """Up to three texts with one set of names, of which some are wrong. An authority does not count
     in the next text, so each begins with one."""
-    lines = written.days_text(pool, today, most=60)
+    lines = written.with_more_names(pool, written.days_text(pool, today, most=60))
     cuts = sorted(pool.source.choices(range(len(lines)), k=pool.source.randrange(3)))
     parts = [lines[start:end] for start, end in zip([0, *cuts], [*cuts, len(lines)])]
     return [parts[0], *([written.an_authority(pool), *it] for it in parts[1:])]
@@ -159,10 +169,11 @@ def some_of(source, entries, odds):
 
 class Audit:
     """What an audit of files by a list prints. Each file is a name and its subjects. The entries
-    are those of the texts that explain."""
+    are those of the texts that explain, and the names those that the texts give to authorities, by
+    their keys."""
 
-    def __init__(self, files, held, entries):
-        self.files, self.found = files, []
+    def __init__(self, files, held, entries, names):
+        self.files, self.names, self.found = files, names, []
         for name, subjects in files:
             for number, it in enumerate(subjects, 1):
                 reasons = it.reasons(held)
@@ -180,13 +191,13 @@ class Audit:
         for name, number, it, reasons, lines, unnamed in self.found if all_keys else self.revoked():
             verdict = "revoked" if reasons else "ok"
             words = ["%s:%d: %s: %s" % (name, number, verdict, it.kind()), fingerprint(it.key)]
-            words += [it.words(reasons)] * bool(reasons)
+            words += [it.words(reasons, self.names)] * bool(reasons)
             yield " ".join(words) + (": " + it.comment if it.comment else "")
             for entry in lines:
                 place = "  %s:%d: " % (visible(entry.file.encode()), entry.number)
                 yield place + visible(entry.written.encode())
             if unnamed:
-                yield "  no line of the texts names it " + it.words(unnamed)
+                yield "  no line of the texts names it " + it.words(unnamed, self.names)
 
     def objects(self):
         for name, number, it, reasons, lines, unnamed in self.found:
@@ -198,12 +209,12 @@ class Audit:
                 "fingerprint": fingerprint(it.key),
                 "comment": it.comment,
                 **it.certificate(),
-                "reasons": it.objects(reasons),
+                "reasons": it.objects(reasons, self.names),
                 "entries": [
                     {"file": entry.file, "line": entry.number, "text": entry.written}
                     for entry in lines
                 ],
-                "unnamed": it.objects(unnamed),
+                "unnamed": it.objects(unnamed, self.names),
             }
 
     def done(self, name, seconds):

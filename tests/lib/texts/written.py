@@ -45,12 +45,16 @@ class Reading:
                 if list(self.own.facts()):
                     self.entries.append(Entry(file, number, line.written, self.own))
 
-    def named_by_key(self):
-        """The name of each authority that has one: of several the first one by its bytes."""
+    def names_by_key(self):
+        """The names of each authority that has some, in the order of their bytes."""
         found = {}
         for name in sorted(self.names, key=str.encode):
-            found.setdefault(self.names[name][0], name)
+            found.setdefault(self.names[name][0], []).append(name)
         return found
+
+    def named_by_key(self):
+        """The name of each authority that has one: of several the first one by its bytes."""
+        return {it: names[0] for it, names in self.names_by_key().items()}
 
     def words(self, line, fault):
         line = undated(line)
@@ -448,6 +452,17 @@ def days_text(pool, today, most=20):
         lines.append(line)
         if isinstance(undated(line), Alone):
             lines.append(an_authority(pool))
+    return lines
+
+
+def with_more_names(pool, lines):
+    """The lines, and a few more names among them, which no line has. Some authorities have several
+    names then."""
+    source = pool.source
+    some = [it for it in NEARLY + OTHERS if it not in pool.names]
+    for it in source.sample(some, source.randrange(1, 5)):
+        pool.names[it] = source.choice([*pool.names.values(), *pool.keys])
+        lines.insert(source.randrange(len(lines) + 1), naming(pool, it, pool.names[it]))
     return lines
 
 

@@ -22,8 +22,8 @@ pub const EACH: &[Reason] = &[
     Reason::KeyIdOfAll,
 ];
 
-// These reasons.
-fn reasons_of(reasons: &[Reason]) -> Reasons {
+/// These reasons.
+pub fn reasons_of(reasons: &[Reason]) -> Reasons {
     let mut bits = 0u16;
     for reason in reasons {
         bits |= 1 << *reason as u16;
@@ -40,11 +40,25 @@ pub fn said_about(
     line: &[u8],
     reasons: &[Reason],
 ) -> Vec<u8> {
+    let explanation: Option<Explanation<'static>> = None;
+    said_with(rt, alloc, form, line, reasons, &explanation)
+}
+
+/// The same, with what explains the reasons.
+pub fn said_with<'s>(
+    rt: &impl Abort,
+    alloc: Global,
+    form: Format,
+    line: &'s [u8],
+    reasons: &[Reason],
+    explanation: &Option<Explanation<'s>>,
+) -> Vec<u8> {
     let mut said = Vec::from_slice(alloc, b"a line before").expect(rt, "there is memory");
     match &read_outcome(alloc, line).expect(rt, "there is memory") {
         Outcome::Login { login, id } => {
             let found = (login, id.as_slice());
-            say(rt, alloc, form, found, reasons_of(reasons), &mut said);
+            let reasons = reasons_of(reasons);
+            say(rt, alloc, form, found, reasons, explanation, &mut said);
         }
         Outcome::Other | Outcome::Unread(_) => assert!(rt; false, "it is no login"),
     }
@@ -58,17 +72,17 @@ fn say<'s>(
     form: Format,
     found: (&'s Login<'s>, &'s [u8]),
     reasons: Reasons,
+    explanation: &'s Option<Explanation<'s>>,
     said: &mut Vec<u8>,
 ) {
     let (login, id) = found;
     let subject = subject_of(alloc, login, id).expect(rt, "there is memory");
-    let explanation: Option<Explanation<'s>> = None;
     let verdict = LoginVerdict {
         login,
         id,
         subject: &subject,
         reasons,
-        explanation: &explanation,
+        explanation,
     };
     let location = Location {
         name: "auth.log",

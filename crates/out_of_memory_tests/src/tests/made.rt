@@ -6,7 +6,7 @@ use krl_core::Revocations;
 use krl_spec::SpecCause;
 use span_sets::Held;
 use std::alloc::AllocError;
-use test_fixtures::{GITHUB, GITHUB_LINE, GITHUB_PRINT, OTHER_LINE, joined};
+use test_fixtures::{GITHUB, GITHUB_LINE, GITHUB_PRINT, OTHER, OTHER_LINE, joined};
 use text_entries::{Standing, TextCause, read_text};
 
 // Ten lines, of which each but the first three names one more entry.
@@ -40,6 +40,9 @@ fn a_text(rt: HostRuntime) {
             assert!(rt; size(&held) == 8);
             if let Some(names) = answered(&rt, standing.names().by_key(), AllocError) {
                 assert!(rt; names.name(GITHUB).is_none() && names.name(b"").is_none());
+            }
+            if let Some(names) = answered(&rt, standing.names().by_fingerprint(), AllocError) {
+                assert!(rt; names.name(OTHER).is_none() && names.name(&[0; 32]).is_none());
             }
         }
         Err(fault) => {

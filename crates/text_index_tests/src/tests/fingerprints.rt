@@ -286,6 +286,7 @@ fn texts_explain_by_fingerprints(rt: HostRuntime) -> Result<(), Fail> {
         let mut standing = Standing::new(alloc, TODAY);
         let added = index.add_text(alloc, &mut standing, "list.txt", &text);
         assert!(rt; added.is_ok());
+        index.name_authorities(&standing)?;
         let subject = subject_of(&rt, alloc, &(plain, Some((8, b"bob", authority)), &[]));
         let explanation = index.explain(alloc, &subject, reasons_of(ALL))?;
         assert!(rt; explanation.lines.len() == lines.len(), "in row {i}");
@@ -297,6 +298,50 @@ fn texts_explain_by_fingerprints(rt: HostRuntime) -> Result<(), Fail> {
         }
         let wanted = reasons_of(unnamed);
         assert!(rt; explanation.unnamed.bits == wanted.bits, "in row {i}");
+    }
+    Ok(())
+}
+
+// A text that gives names to two authorities, one of which has three.
+const NAMING: &[&[u8]] = &[
+    b"@users: ",
+    OTHER_LINE,
+    b"\n@third: ",
+    GITHUB_LINE,
+    b"\n@hosts: ",
+    OTHER_LINE,
+    b"\n@all-users: ",
+    OTHER_LINE,
+];
+
+// The way of queries, an authority, and the name that it has then.
+const NAMED: [(KeysBy, &[u8], &[u8]); 6] = [
+    (KeysBy::Blob, OTHER, b"all-users"),
+    (KeysBy::Blob, GITHUB, b"third"),
+    (KeysBy::Blob, &OTHER_SHA256, b""),
+    (KeysBy::Fingerprint, &OTHER_SHA256, b"all-users"),
+    (KeysBy::Fingerprint, &GITHUB_SHA256, b"third"),
+    (KeysBy::Fingerprint, OTHER, b""),
+];
+
+#[test]
+fn authorities_have_their_first_names(rt: HostRuntime) -> Result<(), Fail> {
+    let alloc = rt.alloc();
+    let text = joined(alloc, NAMING)?;
+    for (i, (by, authority, name)) in NAMED.iter().enumerate() {
+        let mut index = TextIndex::new(alloc, *by);
+        let mut standing = Standing::new(alloc, TODAY);
+        let added = index.add_text(alloc, &mut standing, "list.txt", &text);
+        assert!(rt; added.is_ok());
+        let subject = subject_of(&rt, alloc, &(&UNKNOWN, Some((8, b"bob", authority)), &[]));
+        let before = index.explain(alloc, &subject, reasons_of(ALL))?;
+        assert!(rt; before.authority.is_none(), "in row {i}");
+        index.name_authorities(&standing)?;
+        let after = index.explain(alloc, &subject, reasons_of(ALL))?;
+        match &after.authority {
+            Some(found) => assert!(rt; found.as_slice() == *name, "in row {i}"),
+            None => assert!(rt; name.is_empty(), "in row {i}"),
+        }
     }
     Ok(())
 }

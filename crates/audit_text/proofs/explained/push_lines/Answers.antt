@@ -1,5 +1,5 @@
 -- Each turn appends a line.
-use Rattle.std.proofs.Common.{◌∙◌, ap, append-nil, sym, List, ℕ, ◌++◌, flat_map, ◌∷◌, []}
+use Rattle.std.proofs.Common.{◌∙◌, ap, append-nil, sym, List, ℕ, ◌++◌, flat_map}
 use Rattle.std.proofs.lemmas.Grind.{flat_map-append}
 use Rattle.text_index.specs.Indexing.{line_of}
 use Rattle.audit_text.specs.Text.{entry_line}

@@ -1,6 +1,7 @@
 -- Each turn appends a reason, if it holds.
 use Rattle.std.proofs.Common.{◌∙◌, ap, refl}
 use Rattle.krl_entries.specs.Reasons.{every_reason, has_reason}
+use Rattle.audit_text.specs.Print.{spelled_of}
 use Rattle.audit_text.specs.Text.{reason_words}
 use Rattle.audit_text.proofs.EachReason.{one_more, passed_over}
 use Rattle.audit_text.proofs.reasons.push_parts.Goals as goal
@@ -12,10 +13,10 @@ loop-reason-preserved c =
     elim c.if-has.branch [
       | then-has+in_ok-push_reason w ↦
           ap (λ text. text.items) w.text-is
-          ∙ one_more (has_reason c.args.reasons) (λ reason. reason_words c.args.by reason c.args.subject.now.cert) (λ text. text) refl (λ a b. refl)
+          ∙ one_more (has_reason c.args.reasons) (λ reason. reason_words (spelled_of c.args.spelling) reason c.args.subject.now.cert) (λ text. text) refl (λ a b. refl)
           _ _ _ every_reason loop.reason-index _ c.loop-reason-test.true loop.invariant w.if-has.ensures w.in_ok-push_reason.ensures
       | else-has w ↦
           ap (λ text. text.items) w.text-is
-          ∙ passed_over (has_reason c.args.reasons) (λ reason. reason_words c.args.by reason c.args.subject.now.cert) (λ text. text) refl (λ a b. refl)
+          ∙ passed_over (has_reason c.args.reasons) (λ reason. reason_words (spelled_of c.args.spelling) reason c.args.subject.now.cert) (λ text. text) refl (λ a b. refl)
           _ _ every_reason loop.reason-index _ c.loop-reason-test.true loop.invariant w.if-has.ensures
     ]

@@ -3,5 +3,5 @@ use Rattle.audit_text.proofs.explained.ExplainedOfFields.put_fields.Goals as goa
 
 pub returns : goal.returns
 returns c =
-    let put = rw c.as_slice.ensures.value at c.put_fields.ensures in
+    let put = rw c.as_slice.ensures.value at (rw c.name_in-authority.ensures at c.put_fields.ensures) in
     rw c.in-Some.is put

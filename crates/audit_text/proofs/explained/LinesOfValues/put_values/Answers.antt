@@ -1,10 +1,9 @@
 -- Each turn writes a line.
-use Rattle.std.proofs.Common.{◌≡◌, ◌++◌, ◌∙◌, ap, append-nil, map, List, sym}
+use Rattle.std.proofs.Common.{◌∙◌, ap, append-nil, map, sym}
 use Rattle.std.proofs.lemmas.List.{map-append}
 use Rattle.json_lines.specs.Field.{values_tokens}
 use Rattle.json_lines.proofs.Objects.{values_append}
 use Rattle.text_index.specs.Indexing.{line_of}
-use Rattle.text_index.specs.NamingLines.{Line}
 use Rattle.audit_text.specs.Objects.{entry_value}
 use Rattle.audit_text.proofs.EachLine.{one_more}
 use Rattle.audit_text.proofs.explained.LinesOfValues.put_values.Goals as goal

@@ -1,5 +1,5 @@
 -- The findings of the lines that are left are the end of the findings of all lines.
-use Rattle.std.proofs.Common.{◌≡◌, ℕ, ◌+◌, ◌≤◌, length, Result}
+use Rattle.std.proofs.Common.{◌≡◌, ◌+◌, ◌≤◌, length, Result}
 use Rattle.std.specs.List.{slice_split}
 use Rattle.key_text.specs.Lines.{is_newline}
 use Rattle.run_faults.specs.RunFault.{RunFault}

@@ -1,7 +1,6 @@
 -- The line is printed if it is to be printed, or the audit is stopped at it.
 use Rattle.std.proofs.lemmas.Result.{err_from_is_err_and}
 use Rattle.audit_lines.specs.Outcome.{place}
-use Rattle.krl_audit.specs.Tally.{within}
 use Rattle.krl_audit.proofs.Telling.{told_said, told_stopped}
 use Rattle.krl_audit.proofs.auditor.Auditor.say.Goals as goal
 

@@ -2,7 +2,7 @@
 use Rattle.std.proofs.Common.{sym, ◌∙◌}
 use Rattle.krl_audit.proofs.Judging.{answered, key_made, ok_same}
 use Rattle.krl_audit.proofs.judge.Judge.judge_key.Goals as goal
-use Rattle.krl_audit.proofs.judge.Judge.judge_key.Goals.{then-said+in_ok-explanation+in_ok-say_key+in-None-1, then-said+in_ok-explanation+in_ok-say_key+in-Some-1, else-said}
+use Rattle.krl_audit.proofs.judge.Judge.judge_key.Goals.{then-said+in_ok-explanation+in_ok-say_key+in-None-1, then-said+in_ok-explanation+in_ok-say_key+in-Some+in-None-1, then-said+in_ok-explanation+in_ok-say_key+in-Some+in-Some-explanation-4, else-said}
 
 pub returns : goal.returns
 returns c = λ answers judges given gives.
@@ -14,7 +14,9 @@ returns c = λ answers judges given gives.
     (λ told. elim c.if-said.branch [
       | then-said+in_ok-explanation+in_ok-say_key+in-None-1 w ↦
           (_, answered c.args.self.now answers judges c.in_ok-subject.subject c.reasons-reasons.result _ c.reasons-reasons.ensures (w.in_ok-explanation.ensures judges.texts judges.indexed), rw w.line-is w.in_ok-say_key.ensures)
-      | then-said+in_ok-explanation+in_ok-say_key+in-Some-1 w ↦
+      | then-said+in_ok-explanation+in_ok-say_key+in-Some+in-None-1 w ↦
+          (_, answered c.args.self.now answers judges c.in_ok-subject.subject c.reasons-reasons.result _ c.reasons-reasons.ensures (w.in_ok-explanation.ensures judges.texts judges.indexed), rw w.line-is w.in_ok-say_key.ensures)
+      | then-said+in_ok-explanation+in_ok-say_key+in-Some+in-Some-explanation-4 w ↦
           (_, answered c.args.self.now answers judges c.in_ok-subject.subject c.reasons-reasons.result _ c.reasons-reasons.ensures (w.in_ok-explanation.ensures judges.texts judges.indexed), rw w.line-is w.in_ok-say_key.ensures)
       | else-said w ↦ let bad = sym told ∙ w.if-said.false in absurd cc
     ])

@@ -6,5 +6,5 @@ use Rattle.text_index.proofs.name_index.NameIndex.gather.Given as goal
 
 abbrev pub invariant-postings : goal.invariant-postings
 invariant-postings l =
-    l.lines.items ++ numbers_among (drop l.posting-index l.posting-items) l.key (sought_name l.fn.sought)
-    ≡ l.initial.lines.items ++ numbers_among l.posting-items l.key (sought_name l.fn.sought)
+    l.lines.items ++ numbers_among (drop l.posting-index l.posting-items) (sought_name l.fn.sought)
+    ≡ l.initial.lines.items ++ numbers_among l.posting-items (sought_name l.fn.sought)

@@ -10,11 +10,11 @@ returns-in-Some c =
     let set = (c.get_mut.follows.holds c.push.new.postings).0 in
     rw (← c.self.view_is)
     (on_ok_weaker c.push.result
-    (λ is. puts_set c.args.key.now c.args.posting _ _ c.in-Some.postings.now c.push.new.postings (sym c.in-Some.ensures.value) set is) c.push.ensures)
+    (λ is. puts_set c.args.key c.args.posting _ _ c.in-Some.postings.now c.push.new.postings (sym c.in-Some.ensures.value) set is) c.push.ensures)
 
 pub returns : goal.returns
 returns c =
     let inserted = rw c.get_mut.follows.holds-at-none at c.in_ok-insert.ensures.entries in
     rw (← c.self.view_is)
-    (puts_inserted c.in_ok-key.key c.args.key.now c.args.posting _ _ c.push-2.new.postings c.in_ok-key.ensures.items (sym c.in_default.ensures.value) inserted
+    (puts_inserted c.args.key c.args.posting _ _ c.push-2.new.postings (sym c.in_default.ensures.value) inserted
     (c.in_ok-push.ensures ∙ ap (λ (postings : List Posting). postings ++ c.args.posting ∷ []) c.in_ok-postings.ensures.items))
