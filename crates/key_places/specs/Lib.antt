@@ -1,0 +1,5 @@
+pub mod Blob
+pub mod Name
+pub mod Place
+pub mod Reading
+pub mod Word
