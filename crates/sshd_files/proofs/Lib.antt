@@ -1,0 +1,9 @@
+mod Adding
+mod Digits
+mod Distinct
+mod Entries
+mod Expansions
+mod Fields
+mod Members
+mod OnlyValues
+mod UnknownWords

@@ -1,0 +1,15 @@
+use Rattle.std.proofs.Common.{rules, tests}
+use Rattle.std.proofs.lemmas.Iterator.Consumers.{YieldsList-at, YieldsList-from_filter, map_from_collect}
+use Rattle.std.proofs.lemmas.Iterator.Splits.{YieldsList-from_slice_split}
+use Rattle.sshd_files.specs.Pattern.{names_file, patterns_of}
+use Rattle.sshd_files.proofs.pattern.patterns_of.Goals as goal
+
+pub returns : goal.returns
+unfolding patterns_of
+returns c =
+    map_from_collect _ c.collect.ensures.ran
+    (YieldsList-from_filter _ names_file
+    (YieldsList-at c.filter.ensures.source
+    (YieldsList-from_slice_split _ _ c.args.files.now c.split.ensures.rest c.split.ensures.done
+    c.split.ensures.closure (λ x r q k. search (rules, tests))))
+    c.filter.ensures.closure (λ x r q k. search (rules, tests)))

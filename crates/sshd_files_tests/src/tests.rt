@@ -1,0 +1,7 @@
+//! What `sshd -T` prints, lists of users, and the files that they name.
+
+mod files;
+mod page;
+mod printed;
+mod settings;
+mod users;
