@@ -7,6 +7,7 @@ import specs
 from measure import AUDIT, OURS, build_audit, least, least_in_turn, own, plain_rust
 
 FILES, KEYS = 10_000, 34_000
+USERS = 10_000
 LIST = 4 << 20
 # The most bytes that a file may have.
 LONGEST = 16 << 20
@@ -24,6 +25,44 @@ def tree(root):
         with open(names[-1], "w") as out:
             out.writelines(specs.key_line((1 << 60) + it) for it in range(first, end))
     return names
+
+
+def users(root):
+    """Users with 20 files of a key each, half of them below their homes. The settings of an sshd
+    that reads all of these, the users, and the names of the files, each ended by a zero byte."""
+    homes = ["%s/home/u%d" % (root, number) for number in range(USERS)]
+    below = [".k%d/keys" % number for number in range(10)]
+    beside = ["%s/k%d/" % (root, number) for number in range(10)]
+    for it in beside:
+        os.makedirs(it)
+    names = []
+    for number, home in enumerate(homes):
+        for it in below:
+            os.makedirs(os.path.dirname("%s/%s" % (home, it)))
+        names += ["%s/%s" % (home, it) for it in below] + ["%su%d" % (it, number) for it in beside]
+    for number, name in enumerate(names):
+        with open(name, "w") as out:
+            out.write(specs.key_line((1 << 60) + number))
+    with open("sshd", "w") as out:
+        out.write("authorizedkeysfile %s %s\n" % (" ".join(below), "%u ".join(beside) + "%u"))
+        out.write("trustedusercakeys none\nauthorizedkeyscommand none\n")
+        out.write("revokedkeys %s\n" % os.path.abspath("list.krl"))
+    with open("passwd", "w") as out:
+        out.writelines("u%d:x:%d:1::%s:\n" % (it, it, home) for it, home in enumerate(homes))
+    with open("names", "w") as out:
+        out.writelines(name + "\0" for name in names)
+
+
+def of_sshd():
+    """An audit of what an sshd reads, beside one of the same files by their names."""
+    users(os.path.abspath("of_sshd"))
+    by_sshd, by_name = least_in_turn(
+        [
+            [AUDIT, "audit", "--sshd", "sshd", "--passwd", "passwd"],
+            [AUDIT, "audit", "-f", "list.krl", "--files0-from", "names"],
+        ]
+    )
+    ratio("%d users with 20 files each, by --sshd" % USERS, by_sshd, by_name)
 
 
 def ratio(name, one, other):
@@ -60,6 +99,7 @@ def auditing():
         )
     with open("list.krl", "wb") as out:
         out.write(lists.HEADER)
+    of_sshd()
     with open("long.pub", "w") as out:
         out.write("#" * (LONGEST - 1))
     print(

@@ -10,14 +10,15 @@ _krl() {
   elif [ "$before" = --max-age ]; then
     offered=$(compgen -W '90m 24h 7d' -- "$word")
   elif [[ $word != -* || $before == -*([!-])[ft] ||
-    $before == --@(files0-from|newer-than|superset-of|keep|canary|names) ]]; then
+    $before == --@(files0-from|sshd|passwd|command-output) ||
+    $before == --@(newer-than|superset-of|keep|canary|names) ]]; then
     offered=$(compgen -f -- "$word")
     compopt -o filenames 2>/dev/null
   elif [ "${COMP_WORDS[1]}" = logins ]; then
     offered=$(compgen -W '-a -f -q -t --json --help --version' -- "$word")
   elif [ "${COMP_WORDS[1]}" = check ]; then
-    offered=$(compgen -W '--newer-than --superset-of --max-age --max-cas --keep --canary
-      --allow-empty --json --names --print-version --help --version' -- "$word")
+    offered=$(compgen -W '--newer-than --superset-of --max-age --max-cas --sshd --keep
+      --canary --allow-empty --json --names --print-version --help --version' -- "$word")
   elif [ "${COMP_WORDS[1]}" = show ]; then
     offered=$(compgen -W '--json --no-name --names --help --version' -- "$word")
   elif [ "${COMP_WORDS[1]}" = diff ]; then
@@ -26,8 +27,8 @@ _krl() {
     offered=$(compgen -W '-f -n -q -u -z --comment --replace --allow-empty --help
       --version' -- "$word")
   else
-    offered=$(compgen -W '-a -f -q -t -x --all --canary --exclude --json --files0-from --help
-      --version' -- "$word")
+    offered=$(compgen -W '-a -f -q -t -x --all --canary --exclude --json --files0-from --sshd
+      --passwd --command-output --help --version' -- "$word")
   fi
   [ -z "$offered" ] || mapfile -t COMPREPLY <<<"$offered"
   return 0

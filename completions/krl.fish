@@ -41,6 +41,12 @@ complete -c krl -n "$audits" -l exclude -x \
 complete -c krl -n "$audits" -l json -d 'Print one JSON object on a line for each finding'
 complete -c krl -n "$audits" -l files0-from -rF \
   -d 'Read names of files, each ended by a zero byte'
+complete -c krl -n "$audits" -l sshd -rF \
+  -d 'Audit what an sshd reads for keys, by this output of sshd -T'
+complete -c krl -n "$audits" -l passwd -rF \
+  -d 'The users of --sshd, as getent passwd prints them'
+complete -c krl -n "$audits" -l command-output -rF \
+  -d 'What the AuthorizedKeysCommand of --sshd printed'
 complete -c krl -n "$searches" -F
 complete -c krl -n "$searches" -s f -rF -d 'The revocation list'
 complete -c krl -n "$searches" -s t -rF \
@@ -55,6 +61,8 @@ complete -c krl -n "$checks" -l superset-of -rF \
 complete -c krl -n "$checks" -l max-age -xa '90m 24h 7d' \
   -d 'Refuse a list that was made longer ago than this'
 complete -c krl -n "$checks" -l max-cas -x -d 'Refuse a list with more CAs than this'
+complete -c krl -n "$checks" -l sshd -rF \
+  -d 'Refuse a list that is not the one of the sshd of this output of sshd -T'
 complete -c krl -n "$checks" -l keep -rF -d 'Refuse a list that revokes a key of this file'
 complete -c krl -n "$checks" -l canary -rF \
   -d 'Refuse a list that does not revoke each key of this file'

@@ -665,7 +665,8 @@ missing=$'No such file or directory [file 1 Open]\n'
 keyless=$'no key type stands there [line 1 NoKey]\n'
 cut_short=$'truncated, in its header or within a section [krl 3 EndsEarly]\n'
 full='it takes no more bytes [output 1 Write after 0 bytes]'
-expect 'names that cannot be opened' 255 '' "krl: none/names: it cannot be opened [file 1 Open]"$'\n' audit -f r.krl \
+expect 'names in what is no directory' 255 '' \
+  "krl: none/names: No such file or directory [file 1 Open]"$'\n' audit -f r.krl \
   --files0-from none/names
 expect 'names that cannot be read' 255 '' $'krl: nothing: it is a directory [file 2 Read]\n' audit -f r.krl \
   --files0-from nothing

@@ -227,6 +227,110 @@ done 3<<'ROWS'
 --names of-a --names missing|missing: No such file or directory [file 1 Open]
 ROWS
 
+# The list of an sshd.
+# settings LIST: what sshd -T prints of an sshd that uses this list.
+settings() {
+  printf '%s\n' 'authorizedkeysfile .ssh/authorized_keys' 'trustedusercakeys none' \
+    "revokedkeys $1" 'authorizedkeyscommand none'
+}
+ln -s r.krl link.krl && ln r.krl second.krl && cp r.krl copy.krl
+settings r.krl >name.sshd
+settings "$PWD/r.krl" >path.sshd
+settings "$PWD/folder/../link.krl" >link.sshd
+settings "$PWD/second.krl" >second.sshd
+for it in name path link second; do
+  for list in r.krl ./r.krl link.krl "$PWD/second.krl"; do
+    checks "the list of an sshd by its $it: $list" 0 '' --sshd $it.sshd "$list"
+  done
+  checks "a copy of the list of an sshd by its $it" 1 \
+    "sshd: copy.krl: the sshd of $it.sshd uses another list" --sshd $it.sshd copy.krl
+done
+settings "$PWD/gone.krl" >gone.sshd
+settings $'/r\xff.krl' >bytes.sshd
+settings folder >folder.sshd
+settings - >input.sshd
+for it in gone bytes folder input; do
+  checks "another list of an sshd, $it" 1 "sshd: r.krl: the sshd of $it.sshd uses another list" \
+    --sshd $it.sshd r.krl
+done
+settings none >none.sshd
+checks 'an sshd without a list' 1 'sshd: r.krl: the sshd of none.sshd uses no list' \
+  --sshd none.sshd r.krl
+mv none kept && cp r.krl none && cp none.sshd $'n\u9b'
+checks 'an sshd without a list, and a list that is called none' 1 \
+  'sshd: none: the sshd of n\x9b uses no list' --sshd $'n\u9b' none
+mv kept none
+checks 'the output on standard input' 0 '' --sshd - r.krl <path.sshd
+checks 'the output of an sshd without a list on standard input' 1 \
+  'sshd: r.krl: the sshd of - uses no list' r.krl --sshd - <none.sshd
+checks 'the list of an sshd on standard input' 0 '' --sshd path.sshd - <link.krl
+checks 'a copy on standard input' 1 'sshd: -: the sshd of path.sshd uses another list' \
+  --sshd path.sshd - <copy.krl
+checks 'the list of an sshd through a pipe' 1 'sshd: -: the sshd of path.sshd uses another list' \
+  --sshd path.sshd - < <(cat r.krl)
+checks 'the list of an sshd, and each other condition' 0 '' --allow-empty --newer-than r.krl \
+  --superset-of key.krl --max-cas 0 --sshd path.sshd --keep b.pub --canary a.pub r.krl
+checks 'the list of no sshd, between the other conditions' 1 \
+  "${range}lost: more.krl: 1 entry is not in key.krl
+sshd: key.krl: the sshd of path.sshd uses another list
+g.pub:1: $by_g
+keep: g.pub: 1 of 1 key is revoked, $zeros" \
+  --keep g.pub --sshd path.sshd --superset-of more.krl key.krl
+checks 'the list of no sshd, and a file that is missing' 255 \
+  "sshd: copy.krl: the sshd of none.sshd uses no list
+gone: unread: No such file or directory
+canary: gone: 0 of 0 keys are revoked, 1 line is not read" \
+  --canary gone --sshd none.sshd copy.krl
+# objects_of LIST PASSED REST: the objects of a list that passes the other conditions.
+objects_of() {
+  printf '%s\n' "{\"condition\":\"openssh\",\"passed\":true,\"list\":\"$1\"}" \
+    "{\"condition\":\"empty\",\"passed\":true,\"list\":\"$1\"}" \
+    "{\"condition\":\"slow\",\"passed\":true,\"list\":\"$1\",\"cas\":0,\"most\":4000}" \
+    "{\"condition\":\"sshd\",\"passed\":$2,\"list\":\"$1\",$3}" \
+    "{\"status\":\"done\",\"passed\":$2}"
+}
+checks 'the objects of the list of an sshd' 0 "$(objects_of r.krl true '"sshd":"link.sshd"')" \
+  --json --sshd link.sshd r.krl
+checks 'the objects of the list of no sshd' 1 \
+  "$(objects_of copy.krl false '"sshd":"link.sshd","why":"it uses another list"')" \
+  --json --sshd link.sshd copy.krl
+checks 'the objects of an sshd without a list' 1 \
+  "$(objects_of r.krl false '"sshd":"-","why":"it uses no list"')" \
+  --json --sshd - r.krl <none.sshd
+# An output that is refused ends the check before a list is read.
+: >empty.sshd
+grep -v revokedkeys path.sshd >less.sshd
+{ cat path.sshd && echo 'revokedkeys none'; } >more.sshd
+sed 's/$/\r/' path.sshd >returns.sshd
+head -c -1 path.sshd >cut.sshd
+while IFS='|' read -r it said <&3; do
+  for words in r.krl '--json r.krl' '--superset-of no.krl no.krl' '--keep gone r.krl'; do
+    # shellcheck disable=SC2086
+    expect "an output of sshd -T that is refused: $it: $words" 255 '' "krl: $it.sshd: $said"$'\n' \
+      check --sshd $it.sshd $words
+  done
+done 3<<'ROWS'
+empty|it is not what sshd -T prints: the last line has no end [sshd 1 NoSettings]
+cut|it is not what sshd -T prints: the last line has no end [sshd 1 NoSettings]
+less|it is not what sshd -T prints: revokedkeys is missing [sshd 1 NoSettings]
+more|it is not what sshd -T prints: revokedkeys is there twice [sshd 1 NoSettings]
+returns|it is not what sshd -T prints: it has carriage returns [sshd 1 NoSettings]
+missing|No such file or directory [file 1 Open]
+ROWS
+expect 'an output that failed' 255 '' \
+  $'krl: -: it is not what sshd -T prints: the last line has no end [sshd 1 NoSettings]\n' \
+  check --sshd - r.krl
+expect 'a text of names that is refused, and an output' 255 '' \
+  $'krl: missing: No such file or directory [file 1 Open]\n' \
+  check --sshd empty.sshd --names missing r.krl
+expect 'an output, and a list that is missing' 255 '' \
+  $'krl: no.krl: No such file or directory [file 1 Open]\n' check --sshd path.sshd no.krl
+for words in '--sshd - -' '--sshd - --keep - r.krl' '--sshd - --superset-of - r.krl'; do
+  # shellcheck disable=SC2086
+  expect_text "an output on standard input, named twice: check $words" 2 error check $words \
+    <path.sshd
+done
+
 # Lists that are not read.
 bytes "${H:0:80}00000001" >cut.krl
 missing=$'No such file or directory [file 1 Open]\n'
@@ -420,13 +524,14 @@ twice() {
 }
 twice '--newer-than <krl>' check --newer-than 8.krl --newer-than 7.krl 7.krl
 twice '--superset-of <krl>' check --superset-of key.krl --superset-of key.krl key.krl
+twice '--sshd <file>' check --sshd path.sshd --sshd path.sshd r.krl
 twice '--max-age <duration>' check --max-age 1s --max-age 9d r.krl
 twice '--allow-empty' check --allow-empty --allow-empty r.krl
 twice '--json' check --json --json r.krl
 twice '-f <krl>' audit -f r.krl -f empty g.pub
 twice '--files0-from <file>' audit -f r.krl --files0-from none --files0-from empty
 for it in '--newer-than last.krl' '--superset-of 7.krl' '--max-age 1s' --allow-empty --json \
-  '--keep g.pub' '--canary b.pub' '--names of-a'; do
+  '--keep g.pub' '--canary b.pub' '--names of-a' '--sshd path.sshd'; do
   refuses "--print-version and ${it%% *}" 'error: --print-version goes with no other option' \
     check --print-version $it r.krl
 done

@@ -58,7 +58,11 @@ offers_krl 'the tasks of krl' --help,--version,audit,check,diff,help,logins,make
 offers_krl 'the tasks that have help' audit,check,diff,logins,make,show help ''
 offers_krl 'the task that was begun' audit a
 offers_krl 'the options of an audit' \
-  --all,--canary,--exclude,--files0-from,--help,--json,--version,-a,-f,-q,-t,-x audit -
+  "--all,--canary,--command-output,--exclude,--files0-from,--help,--json,--passwd,--sshd,\
+--version,-a,-f,-q,-t,-x" audit -
+offers_krl 'an output of sshd -T' one.pub audit --sshd o
+offers_krl 'a file of users' one.pub audit --sshd two.krl --passwd o
+offers_krl 'an output of a command' one.pub audit --sshd two.krl --command-output o
 offers_krl 'a file of canaries' one.pub audit -f two.krl --canary o
 offers_krl 'a list' two.krl audit -f t
 offers_krl 'files to audit' "$every" audit -f two.krl ''
@@ -67,7 +71,8 @@ offers_krl 'the options of a search for logins' --help,--json,--version,-a,-f,-q
 offers_krl 'a text to search by' one.pub logins -t o
 offers_krl 'logs' "$every" logins -f two.krl ''
 offers_krl 'the options of a check' "--allow-empty,--canary,--help,--json,--keep,--max-age,--max-cas,\
---names,--newer-than,--print-version,--superset-of,--version" check -
+--names,--newer-than,--print-version,--sshd,--superset-of,--version" check -
+offers_krl 'an output of the sshd of a list' one.pub check two.krl --sshd o
 offers_krl 'durations' 24h,7d,90m check --max-age ''
 offers_krl 'the duration that was begun' 24h check --max-age 2
 offers_krl 'a file to be kept' one.pub check --keep o

@@ -830,7 +830,8 @@ $(cited three.txt 1)
 
 # Words. Standard input can be read once.
 usage='Usage: krl audit [-f <krl>] [-t <text>] [-aqx] [--all] [--canary <file>] [--exclude <name>] '
-usage+='[--json] [--files0-from <file>] [file|directory]...'
+usage+='[--json] [--files0-from <file>] [--sshd <file>] [--passwd <file>] '
+usage+='[--command-output <file>] [file|directory]...'
 # misused NAME WHY USAGE WORD..: the words are refused for this reason, with the form of use or with
 # none.
 misused() {
@@ -844,8 +845,8 @@ misused() {
 }
 misused 'neither a list nor a text' '-f or -t is needed' '' bob
 misused 'no list, and other options' '-f or -t is needed' '' -a --json --canary of_b bob
-misused 'nothing to audit by a text' 'a file, a directory or --files0-from is needed' "$usage" \
-  -t three.txt
+misused 'nothing to audit by a text' \
+  'a file, a directory, --files0-from or --sshd is needed' "$usage" -t three.txt
 once='standard input (-) can be read for one file only'
 for words in '-t - -' '-t - -t - bob' '-t - -t three.txt -t - bob' '-f - -t - bob' '-t - -f - bob' \
   '-f every.krl -t - -' '-t - --files0-from -' '-t three.txt --files0-from - -' \

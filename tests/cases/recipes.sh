@@ -389,6 +389,110 @@ judge 'a folder that cannot be searched' "$(
 )"
 rm tools/find
 
+# ---- the files that sshd reads
+
+asks='sshd -T |' with_users='asked=' many_sshd='[ -s hosts ]'
+need sshd openssh-server ||
+  judge 'sshd is there' '  install it, on Debian by apt-get install openssh-server'
+mkdir -p keys of_backup /run/sshd
+cat >config <<END
+HostKey $room/host
+AuthorizedKeysFile $PWD/keys/%u
+TrustedUserCAKeys $PWD/user-ca.pub
+RevokedKeys $room/revoked.krl
+Match User backup
+  AuthorizedKeysFile $PWD/of_backup/%u
+END
+printf '#!/bin/sh\nexec %s -f %s "$@"\n' "$(command -v sshd || echo /usr/sbin/sshd)" "$PWD/config" \
+  >tools/sshd
+printf '#!/bin/sh\nprintf "%%s\\\\n" root:x:0:0::/root:/bin/sh backup:x:34:34::/home/b:/bin/sh%s\n' \
+  ' dir:x:9:9::/home/d:/bin/sh' >tools/getent
+chmod +x tools/sshd tools/getent
+cp canary.pub "$room/revoked.canary"
+"$program" -k -f "$room/revoked.krl" alice.pub - <<<"sha256: $(cat canary.pub)"
+cp user-ca.pub keys/root
+# found_by BEGINNING: the files and lines of what the recipe finds, and its status.
+found_by() {
+  try_recipe "$1" >output
+  echo "status $?" >>output
+  sed -n "s|^$PWD/\([^ ]*\): revoked: .*|\1 revoked|p; s|^$PWD/\([^ ]*\): unread: .*|\1 unread|p
+    /^status/p" output
+}
+follows 'the files of an sshd' "$asks" 0 '*'
+follows 'the files of an sshd with the users of LDAP' "$with_users" 0 '*'
+cat alice.pub >of_backup/backup && cat alice.pub >keys/dir
+judge 'a key of a Match block, and one of a user of LDAP' "$(
+  differs 'without users' 'status 0' "$(found_by "$asks")"
+  differs 'with them' $'keys/dir:1 revoked\nof_backup/backup:1 revoked\nstatus 1' \
+    "$(found_by "$with_users")"
+)"
+rm of_backup/backup keys/dir && cat alice.pub >>keys/root
+judge 'a key of root' "$(
+  differs 'without users' $'keys/root:2 revoked\nstatus 1' "$(found_by "$asks")"
+  differs 'with them' $'keys/root:2 revoked\nstatus 1' "$(found_by "$with_users")"
+)"
+cp user-ca.pub keys/root
+mv config good
+for it in "echo 'Nothing good'" 'sed /^RevokedKeys/d good' "sed s/%u/%x/ good"; do
+  eval "$it" >config
+  judge "an sshd with this configuration: $it" "$(
+    differs 'without users' 'status 255' "$(found_by "$asks")"
+    is_refused "$with_users"
+  )"
+done
+mv good config
+cp tools/getent kept && printf '#!/bin/sh\nexit 1\n' >tools/getent
+judge 'users that cannot be had' "$(is_refused "$with_users")"
+mv kept tools/getent
+mv "$room/revoked.krl" whole.krl && cp revoked.krl "$room/revoked.krl"
+judge 'a list that does not revoke the canary' "$(is_refused "$asks"; is_refused "$with_users")"
+mv whole.krl "$room/revoked.krl"
+
+# On many hosts.
+cat >tools/ssh <<'END_OF_FILE'
+#!/bin/sh
+[ "$1 $2" = '-n --' ] || exit 99
+: >keys/root
+case $3 in
+  -* | down*) echo "ssh: connect to host $3 port 22: Connection refused" >&2 && exit 255 ;;
+  revoked) cat alice.pub >keys/root ;;
+  odd) printf 'a\033[2J\302\233b\n' && exit 3 ;;
+  endless) exec yes "$(printf %099999d 0)" ;;
+  refused) set -- "$1" "$2" "$3" "sshd() { return 1; }; $4" ;;
+  bare) exit 127 ;;
+  lies) echo 'good: status 0' ;;
+esac
+shift 3
+exec sh -c "$*"
+END_OF_FILE
+chmod +x tools/ssh
+# asked_all STATUS LINE..: the recipe ends so, and these are the statuses.
+asked_all() {
+  try_recipe "$many_sshd" >output
+  differs status "$1" $?
+  differs statuses "$(printf '%s\n' "${@:2}")" "$(cat statuses)"
+}
+printf 'good\nother' >hosts
+follows 'the sshds of many hosts' "$many_sshd" 0 ''
+judge 'each has its status' "$(asked_all 0 'good: status 0' 'other: status 0')"
+printf '%s\n' down revoked refused bare lies -oProxyCommand=x good >hosts
+judge 'hosts that are not reached, refuse, have no krl, lie' "$(
+  asked_all 1 'down: not reached' 'revoked: status 1' 'refused: status 254' 'bare: status 127' \
+    'lies: status 0' '-oProxyCommand=x: not reached' 'good: status 0'
+  grep -q "^revoked: $PWD/keys/root:1: revoked: " audit || cat audit
+  grep -qx 'refused: krl: -: it is not what sshd -T prints: .* \[sshd 1 NoSettings\]' audit || cat audit
+)"
+printf 'odd\nendless\n' >hosts
+judge 'a host whose sshd moves the terminal, and one without an end' "$(
+  asked_all 1 'odd: status 3' 'endless: status 153'
+  grep -qxF 'odd: a?[2J??b' audit || head -n 1 audit
+)"
+: >hosts
+follows 'an empty file of hosts' "$many_sshd" 1 '' again
+rm hosts
+follows 'no file of hosts with sshds' "$many_sshd" 1 '' again
+rm -r tools/ssh tools/sshd tools/getent keys of_backup audit statuses
+
 # ---- the revoked keys of many hosts
 
 many=$'worst=0\n  [ -s hosts ]'

@@ -26,6 +26,8 @@ refusal_fault refusals.Kernel = files.Open
 refusal_fault refusals.Open = files.Open
 refusal_fault refusals.Read = files.Read
 refusal_fault refusals.TooLong = files.TooLong
+refusal_fault refusals.NotAsked = files.Open
+refusal_fault refusals.Wildcards = files.Open
 
 -- the fault, by its family, its number and its name
 abbrev pub why_fault : Why → List ℕ

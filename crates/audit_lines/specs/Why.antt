@@ -22,6 +22,9 @@ refusal_why refusals.Kernel = codes "it is on a file system of the kernel"
 refusal_why refusals.Open = codes "it cannot be opened"
 refusal_why refusals.Read = codes "it cannot be read to its end"
 refusal_why refusals.TooLong = codes "it has more than 16 MiB"
+refusal_why refusals.NotAsked = codes "it is not asked: give its output by --command-output"
+refusal_why refusals.Wildcards =
+    codes "sshd may read what its wildcards match: name these files"
 
 abbrev pub why_text : Why → List ℕ
 why_text (whys.Key (keys.Line fault)) = line_words fault

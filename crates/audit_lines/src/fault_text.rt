@@ -32,6 +32,7 @@ pub fn refusal_fault(refusal: Refusal) -> FileFault
             FileFault::Open,
         Refusal::DirectoryLink | Refusal::LongName => FileFault::Open,
         Refusal::Slow | Refusal::Kernel => FileFault::Open,
+        Refusal::NotAsked | Refusal::Wildcards => FileFault::Open,
         Refusal::NoFile => FileFault::NoKeys,
         Refusal::Read => FileFault::Read,
         Refusal::TooLong => FileFault::TooLong,

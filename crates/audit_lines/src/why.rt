@@ -35,6 +35,10 @@ pub enum Refusal {
     Read,
     /// It is larger than 16,777,216 bytes.
     TooLong,
+    /// It is a command that sshd runs for keys, and an audit runs none.
+    NotAsked,
+    /// It has wildcards, which sshd expands since OpenSSH 10, and an audit does not.
+    Wildcards,
 }
 
 /// Why a line or a file is not read.
@@ -99,5 +103,7 @@ pub fn refusal_words(refusal: Refusal) -> &'static [u8]
         Refusal::Open => b"it cannot be opened",
         Refusal::Read => b"it cannot be read to its end",
         Refusal::TooLong => b"it has more than 16 MiB",
+        Refusal::NotAsked => b"it is not asked: give its output by --command-output",
+        Refusal::Wildcards => b"sshd may read what its wildcards match: name these files",
     }
 }

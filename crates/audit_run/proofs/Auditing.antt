@@ -14,7 +14,7 @@ use Rattle.run_output.specs.Printer.{HasSaid, Printer}
 use Rattle.run_output.specs.Run.{Item, Stopped}
 use Rattle.krl_types.specs.Subject.{Subject}
 use Rattle.audit_text.specs.Answer.{Answer}
-use Rattle.krl_audit.specs.Audit.{JudgesAs, ToldFile, file_kinds}
+use Rattle.krl_audit.specs.Audit.{FileName, JudgesAs, ToldFile, file_kinds}
 use Rattle.krl_audit.specs.Counts.{all_counted}
 use Rattle.krl_audit.specs.declared.counts.Counts.{Counts}
 use Rattle.krl_audit.specs.declared.judge.Judge.{Judge}
@@ -218,8 +218,8 @@ pub same_tally : (c c' : Counts) (f f' : Files) → c ≡ c' → f ≡ f'
 same_tally c c' f f' counts files = rw (counts, files) refl
 
 -- a file was counted
-pub file_tallied : (answers : Subject → Answer) (key : Option (List ℕ)) (name : List ℕ) (content : Result (List ℕ) Refusal)
-    (old new : Tally) (kept : Files) → new.counts ≡ all_counted old.counts (file_kinds answers name content)
+pub file_tallied : (answers : Subject → Answer) (key : Option (List ℕ)) (name : FileName) (content : Result (List ℕ) Refusal)
+    (old new : Tally) (kept : Files) → new.counts ≡ all_counted old.counts (file_kinds answers name.read_as content)
     → kept ≡ with_key key old.files → new.files ≡ with_audited (nat_lt old.counts.revoked new.counts.revoked) kept
     → new ≡ tallied answers old (Audited key name content)
 file_tallied answers key name content old new kept counts keeps files =
@@ -227,13 +227,13 @@ file_tallied answers key name content old new kept counts keeps files =
     (files ∙ ap (λ (f : Files). with_audited (nat_lt old.counts.revoked new.counts.revoked) f) keeps
     ∙ ap (λ (c : Counts). with_audited (nat_lt old.counts.revoked c.revoked) (with_key key old.files)) counts)
 
-pub key_timely : (tally : Tally) (key : Option (List ℕ)) (name : List ℕ) (content : Result (List ℕ) Refusal)
+pub key_timely : (tally : Tally) (key : Option (List ℕ)) (name : FileName) (content : Result (List ℕ) Refusal)
     → IfSome key (λ new. is_seen tally.files new ≡ false) → IsTimely tally (Audited key name content)
 key_timely tally None name content new = tt
 key_timely tally (Some key) name content new = new
 
 -- the same of a file
-pub file_stopped : (answers : Subject → Answer) (key : Option (List ℕ)) (name : List ℕ) (content : Result (List ℕ) Refusal)
+pub file_stopped : (answers : Subject → Answer) (key : Option (List ℕ)) (name : FileName) (content : Result (List ℕ) Refusal)
     (fault : RunFault) (old new : State)
     → ToldFile answers old.judge.shown name content (Err fault) old.printer new.printer old.tally.counts new.tally.counts
     → IfSome key (λ new. is_seen old.tally.files new ≡ false)
@@ -247,7 +247,7 @@ not_revoked true true false is so silent = absurd (cc)
 not_revoked false true false is so silent = absurd (cc)
 not_revoked ends false revoked is so silent = refl
 
-pub file_met : (answers : Subject → Answer) (key : Option (List ℕ)) (name : List ℕ) (content : Result (List ℕ) Refusal)
+pub file_met : (answers : Subject → Answer) (key : Option (List ℕ)) (name : FileName) (content : Result (List ℕ) Refusal)
     (value : Unit {0}) (old new : State) (kept : Files) (ends : Bool) → new.judge ≡ old.judge
     → ToldFile answers old.judge.shown name content (Ok value) old.printer new.printer old.tally.counts new.tally.counts
     → IfSome key (λ new. is_seen old.tally.files new ≡ false) → kept ≡ with_key key old.tally.files
@@ -278,7 +278,7 @@ ends_some false some revoked is so = absurd (cc)
 some_more : (a b : ℕ) → nat_lt a b ≡ true → 0 < b
 some_more a b is = let less : a < b = ltb-true a b is in omega (arith, less)
 
-pub file_revoked : (answers : Subject → Answer) (key : Option (List ℕ)) (name : List ℕ) (content : Result (List ℕ) Refusal)
+pub file_revoked : (answers : Subject → Answer) (key : Option (List ℕ)) (name : FileName) (content : Result (List ℕ) Refusal)
     (value : Unit {0}) (old new : State) (kept : Files) (ends : Bool)
     → ToldFile answers old.judge.shown name content (Ok value) old.printer new.printer old.tally.counts new.tally.counts
     → IfSome key (λ new. is_seen old.tally.files new ≡ false) → kept ≡ with_key key old.tally.files
@@ -292,7 +292,7 @@ file_revoked answers key name content value old new kept ends told is_new keeps 
     (ends_quiet ends more new.judge.shown.revoked is so)
     (some_more old.tally.counts.revoked new.tally.counts.revoked (ends_some ends more new.judge.shown.revoked is so))
 
-pub gave_since : (old new : Since) (key : Option (List ℕ)) (name : List ℕ) (content : Result (List ℕ) Refusal)
+pub gave_since : (old new : Since) (key : Option (List ℕ)) (name : FileName) (content : Result (List ℕ) Refusal)
     → new.gave ≡ true → new.passed ≡ old.passed → IsSince (Audited key name content ∷ []) None old new
 gave_since old new key name content is was = (is ∙ or_true old.gave, was ∙ or_false old.passed)
 

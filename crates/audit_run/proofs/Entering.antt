@@ -1,6 +1,7 @@
 -- A name of a directory, and where it leads.
 use Rattle.std.proofs.Common.{◌≡◌, ℕ, Bool, false, List, Option, None, Result, Err, refl, inl, inr}
 use Rattle.std.specs.Str.{IsUtf8}
+use Rattle.krl_audit.specs.Audit.{own_name}
 use Rattle.audit_run.specs.Selection.{selection_of}
 use Rattle.audit_run.specs.Paths.{path_in}
 use Rattle.audit_run.specs.declared.selection.Selection.{Selection}
@@ -17,7 +18,7 @@ pub entry_here : (Knows : Fact → Type 0) (every : Bool) (directory name at oth
     (by_name expected : Bool) (looked target : Result Found Refusal) (visits : List Visit) → Knows (Excludes name false) → IsUtf8 name
     → at ≡ path_in directory name → other ≡ path_in directory name → selection ≡ selection_of every name
     → by_name ≡ is_always selection → expected ≡ is_expected directory name → is_never selection ≡ false → Knows (Leads at false looked)
-    → is_directory looked ≡ false → IsTarget Knows other looked target → VisitsTarget Knows other by_name expected target visits
+    → is_directory looked ≡ false → IsTarget Knows other looked target → VisitsTarget Knows (own_name other) by_name expected target visits
     → IsEntry Knows every directory name false visits
 entry_here Knows every directory name at other selection by_name expected looked target visits keeps utf8 at_is other_is chosen by wants never
     looks is leads met =

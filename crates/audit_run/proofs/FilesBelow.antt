@@ -25,6 +25,7 @@ use Rattle.audit_run.specs.Names.{AreWanted, IsWanted, MayBeDirectory, behind, d
 use Rattle.audit_run.specs.Names.{left_out, looked_at, no_name, not_looked_at, selected, taken}
 use Rattle.audit_run.specs.Names.{no_text as no_text_name, not_selected as not_selected_name}
 use Rattle.audit_run.specs.Reading.{front_of}
+use Rattle.krl_audit.specs.Audit.{own_name}
 use Rattle.audit_run.specs.Visits.{Audited, Visit, refused}
 use Rattle.audit_run.specs.Walk.{IsDirectory, IsEntered, IsEnteredBelow, IsOpen, Level, Turns, before, elsewhere, endless, entered, entered_below, every_in, not_entered, stopped, walked}
 use Rattle.audit_run.specs.ZeroEnded.{names_after}
@@ -52,7 +53,7 @@ in_tail {X} y xs x is = Contains-append_right (y ∷ []) xs x is
 one_unread : (visits all : List Visit) (path : List ℕ) (refusal : Refusal) → visits ≡ refused path refusal → IsPartOf visits all
     → SomeUnread all
 one_unread visits all path refusal is part =
-    let one : Visit = Audited None path (Err refusal) in
+    let one : Visit = Audited None (own_name path) (Err refusal) in
     (path, refusal, part one (subst (λ (v : List Visit). Contains v one) (sym is) (at_head one [])))
 
 -- ---- a visit of a path
@@ -61,7 +62,7 @@ one_visit : (visits : List Visit) (path : List ℕ) (visit : Visit) → visits �
 one_visit visits path visit is of = (visit, (subst (λ (v : List Visit). Contains v visit) (sym is) (at_head visit []), of))
 
 opened_visit : (Knows : Fact → Type 0) (path : List ℕ) (held : OpenFile) (visits : List Visit)
-    → IsOpened Knows path held.identity held.bytes visits → SomeVisit path visits
+    → IsOpened Knows (own_name path) held.identity held.bytes visits → SomeVisit path visits
 opened_visit Knows path held visits (read is) = one_visit visits path _ is.visits_are refl
 opened_visit Knows path held visits (seen_before told is) = one_visit visits path _ is refl
 
@@ -78,7 +79,7 @@ begins_known bytes (Some all) value is begins =
 
 private_file_visit : (Knows : Fact → Type 0) (path : List ℕ) (held : OpenFile) (bytes : List ℕ) (visits : List Visit)
     → held.bytes ≡ Some bytes → begins_container (front_of bytes) ≡ true
-    → IsPrivateFile Knows path held.identity held.bytes visits → SomeVisit path visits
+    → IsPrivateFile Knows (own_name path) held.identity held.bytes visits → SomeVisit path visits
 private_file_visit Knows path held bytes visits known begins (private front is) = opened_visit Knows path held visits is
 private_file_visit Knows path held bytes visits known begins (passed_file front is) =
     absurd (not_both (begins_container (front_of bytes)) begins (begins_known bytes held.bytes false known front))
@@ -86,7 +87,7 @@ private_file_visit Knows path held bytes visits known begins (unread refusal fai
 
 private_visit : (Knows : Fact → Type 0) (path : List ℕ) (selection : Selection) (file found : Found) (held : OpenFile) (visits : List Visit)
     → IsSteady Knows → found ≡ file → Knows (Opens path (Some found) (Ok held)) → is_always selection ≡ false
-    → IsSelected Knows path file selection → IsPrivateFile Knows path held.identity held.bytes visits → SomeVisit path visits
+    → IsSelected Knows path file selection → IsPrivateFile Knows (own_name path) held.identity held.bytes visits → SomeVisit path visits
 private_visit Knows path _ file found held visits steady same opens only by_name is = absurd (cc)
 private_visit Knows path _ file found held visits steady same opens only (by_front other bytes opened known begins) is =
     let there : Knows (Opens path (Some file) (Ok held)) = subst (λ (f : Found). Knows (Opens path (Some f) (Ok held))) same opens in
@@ -96,7 +97,7 @@ private_visit Knows path _ file found held visits steady same opens only (by_fro
 
 target_visit : (Knows : Fact → Type 0) (path : List ℕ) (selection : Selection) (expected : Bool) (file : Found)
     (target : Result Found Refusal) (visits : List Visit) → IsSteady Knows → target ≡ Ok file → file.kind ≡ kinds.File
-    → IsSelected Knows path file selection → VisitsTarget Knows path (is_always selection) expected target visits → SomeVisit path visits
+    → IsSelected Knows path file selection → VisitsTarget Knows (own_name path) (is_always selection) expected target visits → SomeVisit path visits
 target_visit Knows path selection expected file target visits steady is_file kind selects (unseen refusal so is) =
     one_visit visits path _ is refl
 target_visit Knows path selection expected file target visits steady is_file kind selects (not_opened found refusal so kind_is opens is) =
@@ -426,7 +427,7 @@ file_visited Knows every top path visits steady (walked first rest start count e
     file_in_walk Knows every top path start count first rest visits steady enters turns
     (λ x is_x. met x (Contains-append_left first rest x is_x)) (λ x is_x. met x (Contains-append_right first rest x is_x)) file
 file_visited Knows every top path visits steady (endless first rest start now count enters turns most is) file =
-    let one : Visit = Audited None top (Err refusals.Read) in
+    let one : Visit = Audited None (own_name top) (Err refusals.Read) in
     inr (
       top,
       refusals.Read,

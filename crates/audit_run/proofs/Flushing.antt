@@ -8,7 +8,7 @@ use Rattle.run_output.specs.Run.{Item}
 use Rattle.run_output.proofs.RunParts.{carries_then}
 use Rattle.krl_types.specs.Subject.{Subject}
 use Rattle.audit_text.specs.Answer.{Answer}
-use Rattle.krl_audit.specs.Audit.{ToldFile}
+use Rattle.krl_audit.specs.Audit.{FileName, ToldFile}
 use Rattle.krl_audit.specs.declared.counts.Counts.{Counts}
 use Rattle.krl_audit.specs.declared.judge.Shown.{Shown}
 use Rattle.audit_lines.specs.declared.why.Refusal.{Refusal}
@@ -19,7 +19,7 @@ carried_and_sent items value result old mid new first second =
     subst (λ (all : List Item). Carries {A = Unit {0}} all result old new) (append-nil items)
     (carries_then items [] value result old mid new first second)
 
-pub told_and_sent : (answers : Subject → Answer) (shown : Shown) (name : List ℕ) (content : Result (List ℕ) Refusal) (value : Unit {0})
+pub told_and_sent : (answers : Subject → Answer) (shown : Shown) (name : FileName) (content : Result (List ℕ) Refusal) (value : Unit {0})
     (result : Result (Unit {0}) RunFault) (old mid new : Printer) (before after : Counts)
     → ToldFile answers shown name content (Ok value) old mid before after → Carries {A = Unit {0}} [] result mid new
     → ToldFile answers shown name content result old new before after

@@ -6,6 +6,7 @@ pub mod Contents
 pub mod NamedPaths
 pub mod ZeroEnded
 pub mod Turning
+pub mod SoughtFiles
 pub mod Running
 pub mod Flushing
 pub mod Inputs

@@ -1,7 +1,7 @@
 -- One after another.
-use Rattle.std.proofs.Common.{◌≡◌, ℕ, ◌<◌, ◌+◌, Bool, true, false, List, [], ◌∷◌, ◌++◌, length, take, get_or}
+use Rattle.std.proofs.Common.{◌≡◌, ℕ, ◌<◌, ◌+◌, Bool, true, false, List, [], ◌∷◌, ◌++◌, length, take, drop, get_or}
 use Rattle.std.proofs.Common.{refl, sym, ap, subst, ◌∙◌, append_assoc}
-use Rattle.std.proofs.lemmas.List.{append-nil, take_more}
+use Rattle.std.proofs.lemmas.List.{append-nil, take_more, take-append-drop}
 use Rattle.audit_run.specs.Named.{Each, next, none, stopped}
 use Rattle.audit_run.specs.Visits.{Visit}
 
@@ -29,12 +29,20 @@ each_cut Is whole _ ys _ nothing (next x xs first rest is was) =
 each_cut Is whole _ ys _ nothing (stopped x xs first cut is) =
     stopped x (xs ++ ys) first refl (subst (λ (w : Bool). Is w x first) refl is)
 
--- the same at an index
-pub each_more : {X : Type 0} (Is : Bool → X → List Visit → Type 0) (xs : List X) (i : ℕ) (x : X) (visits more : List Visit)
-    → i < length xs → x ≡ get_or xs i x → Each Is true (take i xs) visits → Is true x more
-    → Each Is true (take (i + 1) xs) (visits ++ more)
-each_more {X} Is xs i x visits more lt item each is =
-    let taken : take (i + 1) xs ≡ take i xs ++ x ∷ [] =
-    take_more xs i x lt ∙ ap (λ (y : X). take i xs ++ y ∷ []) (sym item) in
-    subst (λ (ys : List X). Each Is true ys (visits ++ more)) (sym taken)
-    (each_then Is true (take i xs) (x ∷ []) visits more each (each_one Is true x more is))
+-- the element at an index, with any default
+pub each_more : {X : Type 0} (Is : Bool → X → List Visit → Type 0) (xs : List X) (i : ℕ) (d : X) (visits more : List Visit)
+    → i < length xs → Each Is true (take i xs) visits → Is true (get_or xs i d) more → Each Is true (take (i + 1) xs) (visits ++ more)
+each_more {X} Is xs i d visits more lt each is =
+    subst (λ (ys : List X). Each Is true ys (visits ++ more)) (sym (take_more xs i d lt))
+    (each_then Is true (take i xs) (get_or xs i d ∷ []) visits more each (each_one Is true (get_or xs i d) more is))
+
+pub each_stops : {X : Type 0} (Is : Bool → X → List Visit → Type 0) (xs : List X) (i : ℕ) (d : X) (visits more : List Visit)
+    → i < length xs → Each Is true (take i xs) visits → Is false (get_or xs i d) more → Each Is false xs (visits ++ more)
+each_stops {X} Is xs i d visits more lt each is =
+    let x = get_or xs i d in
+    let rest = drop (i + 1) xs in
+    let all : xs ≡ take i xs ++ x ∷ rest =
+    sym (take-append-drop (i + 1) xs) ∙ ap (λ (ys : List X). ys ++ rest) (take_more xs i d lt)
+    ∙ append_assoc (take i xs) (x ∷ []) rest in
+    subst (λ (ys : List X). Each Is false ys (visits ++ more)) (sym all)
+    (each_then Is false (take i xs) (x ∷ rest) visits more each (stopped x rest more refl is))

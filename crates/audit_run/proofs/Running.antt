@@ -17,8 +17,9 @@ use Rattle.krl_audit.specs.declared.counts.Counts.{Counts}
 use Rattle.krl_audit.specs.declared.judge.Judge.{Judge}
 use Rattle.krl_audit.specs.declared.judge.Shown.{Shown}
 use Rattle.audit_run.proofs.Auditing.{quiet_stopped}
+use Rattle.audit_run.proofs.SoughtFiles.{cut_off_met}
 use Rattle.audit_run.specs.Fact.{Fact}
-use Rattle.audit_run.specs.Run.{AreGiven, AreUnread, EndsAuditBy, IsAudit, Readers, all_audited, ended_at_revoked, in_names, last_items, lost, names_fault}
+use Rattle.audit_run.specs.Run.{AreCutOff, AreMet, EndsAuditBy, IsAudit, Readers, all_audited, ended_at_revoked, last_items, lost, names_fault}
 use Rattle.audit_run.specs.Run.{no_names, ran_out, stop_fault, summary_of, summary_unless}
 use Rattle.audit_run.specs.Visits.{Audits, Says, State, Tally, Visit, nothing_tallied, visits_items}
 use Rattle.audit_run.specs.declared.order.Order.{Order}
@@ -47,7 +48,7 @@ said_so order answers visits stop before old new shown audits said =
 
 pub ended_all : (Knows : Fact → Type 0) (order : Order) (queried : Queried) (readers : Readers)
     (answers : Subject → Answer) (before : Option (List ℕ)) (visits : List Visit) (result : Result (Unit {0}) RunFault) (old mid new : State)
-    → AreGiven Knows order.every_file true readers order.paths.now visits → Audits answers visits None old mid
+    → AreMet Knows order.every_file true order.sought.now readers order.paths.now visits → Audits answers visits None old mid
     → Carries (last_items order.list.now queried mid.tally) result mid.printer new.printer → new.tally ≡ mid.tally
     → old.judge.shown ≡ order.shown → HasSaid before [] old.printer
     → Ended Knows order queried readers answers before (result_err result) old new
@@ -61,7 +62,7 @@ ended_all Knows order queried readers answers before visits result old mid new g
         record {
           visits = visits;
           whole = true;
-          given = given;
+          met = given;
           timely = audits.timely;
           quiet = λ silent. audits.quiet (ap (λ (s : Shown). s.revoked) shown ∙ silent);
           is_run = all_audited refl refl;
@@ -77,7 +78,7 @@ some_is x is = cc
 -- an audit was stopped
 pub ended_stopped : (Knows : Fact → Type 0) (order : Order) (queried : Queried) (readers : Readers)
     (answers : Subject → Answer) (before : Option (List ℕ)) (visits : List Visit) (stop : Stop) (old new : State)
-    → AreGiven Knows order.every_file false readers order.paths.now visits → Audits answers visits (Some stop) old new
+    → AreMet Knows order.every_file false order.sought.now readers order.paths.now visits → Audits answers visits (Some stop) old new
     → new.judge ≡ old.judge → old.judge.shown ≡ order.shown → HasSaid before [] old.printer
     → Ended Knows order queried readers answers before (stop_fault stop) old new
 ended_stopped Knows order queried readers answers before visits stops.Revoked old new given audits judge shown said =
@@ -89,7 +90,7 @@ ended_stopped Knows order queried readers answers before visits stops.Revoked ol
         record {
           visits = visits;
           whole = false;
-          given = given;
+          met = given;
           timely = audits.timely;
           quiet = λ silent. audits.quiet (ap (λ (s : Shown). s.revoked) shown ∙ silent);
           is_run = ended_at_revoked quiet at.1.1 refl refl;
@@ -105,7 +106,7 @@ ended_stopped Knows order queried readers answers before visits stops.NoMemory o
         record {
           visits = visits;
           whole = false;
-          given = given;
+          met = given;
           timely = audits.timely;
           quiet = λ silent. audits.quiet (ap (λ (s : Shown). s.revoked) shown ∙ silent);
           is_run = ran_out front.said front.later front.parts refl refl;
@@ -127,7 +128,7 @@ ended_stopped Knows order queried readers answers before visits (stops.Lost coun
     record {
       visits = visits;
       whole = false;
-      given = given;
+      met = given;
       timely = audits.timely;
       quiet = λ silent. audits.quiet (ap (λ (s : Shown). s.revoked) shown ∙ silent);
       is_run = lost count refl refl;
@@ -140,7 +141,7 @@ ended_stopped Knows order queried readers answers before visits (stops.Lost coun
 -- names could not be read to their end
 pub ended_unread : (Knows : Fact → Type 0) (order : Order) (queried : Queried) (readers : Readers)
     (answers : Subject → Answer) (before : Option (List ℕ)) (visits : List Visit) (old new : State)
-    → AreUnread Knows order.every_file readers visits → Audits answers visits None old new
+    → AreCutOff Knows order.every_file order.sought.now readers visits → Audits answers visits None old new
     → old.judge.shown ≡ order.shown → HasSaid before [] old.printer
     → Ended Knows order queried readers answers before (Some (names_fault order.names_from.now)) old new
 ended_unread Knows order queried readers answers before visits old new unread audits shown said =
@@ -151,7 +152,7 @@ ended_unread Knows order queried readers answers before visits old new unread au
         record {
           visits = visits;
           whole = false;
-          given = in_names unread.left unread.given refl unread.before;
+          met = cut_off_met Knows order.every_file order.sought.now readers order.paths.now visits unread;
           timely = audits.timely;
           quiet = λ silent. quiet_stopped answers old.tally visits
               (audits.quiet (ap (λ (s : Shown). s.revoked) shown ∙ silent));

@@ -8,6 +8,7 @@ use Rattle.audit_run.specs.Paths.{path_in}
 use Rattle.audit_run.specs.declared.selection.Selection.{Selection}
 use Rattle.audit_run.specs.declared.selection.Selection.TheVariants as selections
 use Rattle.audit_lines.specs.declared.why.Refusal.{Refusal}
+use Rattle.krl_audit.specs.Audit.{own_name}
 use Rattle.audit_run.specs.Fact.{Elsewhere, Excludes, Fact, Leads, Lists, OpenFile, Opens}
 use Rattle.audit_run.specs.Names.{is_dots}
 use Rattle.audit_run.specs.Reading.{front_of}
@@ -83,7 +84,7 @@ pub record IsFileBelow (Knows : Fact → Type 0) (every : Bool) (top path : List
 -- ---- visits
 
 abbrev pub IsVisitOf : List ℕ → Visit → Type 0
-IsVisitOf path (Audited key name content) = name ≡ path
+IsVisitOf path (Audited key name content) = name.shown ≡ path
 IsVisitOf path (Same told key name) = name ≡ path
 IsVisitOf path (Skipped why count) = ⊥
 
@@ -94,4 +95,5 @@ SomeVisit path visits = (visit : Visit) × (Contains visits visit × IsVisitOf p
 -- something is reported as unread
 abbrev pub SomeUnread : List Visit → Type 0
 SomeUnread visits =
-    (name : List ℕ) × (refusal : Refusal) × Contains visits (Audited None name (Err refusal))
+    (name : List ℕ) × (refusal : Refusal)
+    × Contains visits (Audited None (own_name name) (Err refusal))

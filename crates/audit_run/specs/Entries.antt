@@ -13,6 +13,7 @@ use Rattle.audit_lines.specs.declared.front.Fronts.{Fronts}
 use Rattle.audit_lines.specs.declared.front.Fronts.TheVariants as fronts
 use Rattle.audit_lines.specs.declared.why.Refusal.{Refusal}
 use Rattle.audit_lines.specs.declared.why.Refusal.TheVariants as refusals
+use Rattle.krl_audit.specs.Audit.{FileName, own_name}
 use Rattle.audit_run.specs.Fact.{Excludes, Fact, Fails, Leads, OpenFile, Opens}
 use Rattle.audit_run.specs.Names.{is_directory, is_irregular, is_link, is_never}
 use Rattle.audit_run.specs.Reading.{IsContent, front_of}
@@ -36,12 +37,12 @@ way_by fronts.Either true = 5
 abbrev pub way_of : List ℕ → ℕ
 way_of path = way_by (fronts_of path) (is_read_by_lines path)
 
--- A file, and how its path says that it is read: a file with several names is audited once for each
+-- A file, and how this name says that it is read: a file with several names is audited once for each
 -- of these ways.
-abbrev pub key_of : List ℕ → Identity → List ℕ
-key_of path identity =
+abbrev pub key_of : (read_as : List ℕ) → Identity → List ℕ
+key_of read_as identity =
     identity.device ∷ identity.number ∷ identity.size ∷ identity.changed ∷ identity.nanoseconds
-    ∷ way_of path ∷ []
+    ∷ way_of read_as ∷ []
 
 -- ---- a file
 
@@ -50,30 +51,30 @@ abbrev pub FailsAt : (Fact → Type 0) → List ℕ → Refusal → Type 0
 FailsAt Knows path refusal = Knows (Fails path refusal)
 
 -- the bytes of a reader are audited, or why they are not read
-pub record IsRead (Failed : Refusal → Type 0) (path : List ℕ) (bytes : Option (List ℕ))
+pub record IsRead (Failed : Refusal → Type 0) (name : FileName) (bytes : Option (List ℕ))
     (key : Option (List ℕ)) (visits : List Visit) : Type 0 where
   pub content : Result (List ℕ) Refusal
   pub is : IsContent Failed bytes content
-  pub visits_are : visits ≡ Audited key path content ∷ []
+  pub visits_are : visits ≡ Audited key name content ∷ []
 
 -- A file that is open is read, or it was audited before.
-pub data IsOpened (Knows : Fact → Type 0) (path : List ℕ) (identity : Identity)
+pub data IsOpened (Knows : Fact → Type 0) (name : FileName) (identity : Identity)
     (bytes : Option (List ℕ)) (visits : List Visit) : Type 0 where
-  read : IsRead (FailsAt Knows path) path bytes (Some (key_of path identity)) visits
-      → IsOpened Knows path identity bytes visits
-  same : (told : Bool) → visits ≡ Same told (key_of path identity) path ∷ []
-      → IsOpened Knows path identity bytes visits
+  read : IsRead (FailsAt Knows name.shown) name bytes (Some (key_of name.read_as identity)) visits
+      → IsOpened Knows name identity bytes visits
+  same : (told : Bool) → visits ≡ Same told (key_of name.read_as identity) name.shown ∷ []
+      → IsOpened Knows name identity bytes visits
 
 -- An open file that is read only if it begins as a private key file, and is skipped otherwise.
-pub data IsPrivateFile (Knows : Fact → Type 0) (path : List ℕ) (identity : Identity)
+pub data IsPrivateFile (Knows : Fact → Type 0) (name : FileName) (identity : Identity)
     (bytes : Option (List ℕ)) (visits : List Visit) : Type 0 where
   private : IfSome bytes (λ all. begins_container (front_of all) ≡ true)
-      → IsOpened Knows path identity bytes visits
-      → IsPrivateFile Knows path identity bytes visits
+      → IsOpened Knows name identity bytes visits
+      → IsPrivateFile Knows name identity bytes visits
   other : IfSome bytes (λ all. begins_container (front_of all) ≡ false)
-      → visits ≡ Skipped skips.ByName 1 ∷ [] → IsPrivateFile Knows path identity bytes visits
-  unread : (refusal : Refusal) → Knows (Fails path refusal) → visits ≡ refused path refusal
-      → IsPrivateFile Knows path identity bytes visits
+      → visits ≡ Skipped skips.ByName 1 ∷ [] → IsPrivateFile Knows name identity bytes visits
+  unread : (refusal : Refusal) → Knows (Fails name.shown refusal)
+      → visits ≡ refused name.shown refusal → IsPrivateFile Knows name identity bytes visits
 
 -- ---- what a path leads to
 
@@ -90,43 +91,43 @@ pub data IsTarget (Knows : Fact → Type 0) (path : List ℕ) (looked target : R
 
 -- this content is audited, or the name is skipped
 abbrev pub audited_if : Bool → List ℕ → Result (List ℕ) Refusal → List Visit
-audited_if true path content = Audited None path content ∷ []
+audited_if true path content = Audited None (own_name path) content ∷ []
 audited_if false path content = Skipped skips.ByName 1 ∷ []
 
 -- A path leads to these visits, by its target, which is no directory. A file there is read by its
 -- name, or only if it begins as a private key file; and a file is expected there or not.
-pub data VisitsTarget (Knows : Fact → Type 0) (path : List ℕ) (by_name expected : Bool)
+pub data VisitsTarget (Knows : Fact → Type 0) (name : FileName) (by_name expected : Bool)
     (target : Result Found Refusal) (visits : List Visit) : Type 0 where
   -- it cannot be looked at, or is a link to a directory
-  unseen : (refusal : Refusal) → target ≡ Err refusal → visits ≡ refused path refusal
-      → VisitsTarget Knows path by_name expected target visits
+  unseen : (refusal : Refusal) → target ≡ Err refusal → visits ≡ refused name.shown refusal
+      → VisitsTarget Knows name by_name expected target visits
   -- a regular file that cannot be opened
   not_opened : (found : Found) (refusal : Refusal) → target ≡ Ok found → found.kind ≡ kinds.File
-      → Knows (Opens path (Some found) (Err refusal)) → visits ≡ refused path refusal
-      → VisitsTarget Knows path by_name expected target visits
+      → Knows (Opens name.shown (Some found) (Err refusal)) → visits ≡ refused name.shown refusal
+      → VisitsTarget Knows name by_name expected target visits
   -- one that is no regular file any more once it is open
   not_regular : (found : Found) (held : OpenFile) → target ≡ Ok found → found.kind ≡ kinds.File
-      → Knows (Opens path (Some found) (Ok held)) → held.is_file ≡ false
-      → visits ≡ refused path refusals.Irregular
-      → VisitsTarget Knows path by_name expected target visits
+      → Knows (Opens name.shown (Some found) (Ok held)) → held.is_file ≡ false
+      → visits ≡ refused name.shown refusals.Irregular
+      → VisitsTarget Knows name by_name expected target visits
   -- a regular file that is read by its name
   regular : (found : Found) (held : OpenFile) → target ≡ Ok found → found.kind ≡ kinds.File
-      → Knows (Opens path (Some found) (Ok held)) → held.is_file ≡ true → by_name ≡ true
-      → IsOpened Knows path held.identity held.bytes visits
-      → VisitsTarget Knows path by_name expected target visits
+      → Knows (Opens name.shown (Some found) (Ok held)) → held.is_file ≡ true → by_name ≡ true
+      → IsOpened Knows name held.identity held.bytes visits
+      → VisitsTarget Knows name by_name expected target visits
   -- one that is read only if it begins as a private key file
   private_only : (found : Found) (held : OpenFile) → target ≡ Ok found → found.kind ≡ kinds.File
-      → Knows (Opens path (Some found) (Ok held)) → held.is_file ≡ true → by_name ≡ false
-      → IsPrivateFile Knows path held.identity held.bytes visits
-      → VisitsTarget Knows path by_name expected target visits
+      → Knows (Opens name.shown (Some found) (Ok held)) → held.is_file ≡ true → by_name ≡ false
+      → IsPrivateFile Knows name held.identity held.bytes visits
+      → VisitsTarget Knows name by_name expected target visits
   -- the null device, which is an empty file
   null_device : (found : Found) → target ≡ Ok found → found.kind ≡ kinds.Null
-      → visits ≡ audited_if by_name path (Ok [])
-      → VisitsTarget Knows path by_name expected target visits
+      → visits ≡ audited_if by_name name.shown (Ok [])
+      → VisitsTarget Knows name by_name expected target visits
   -- a pipe, a socket or another device
   irregular : (found : Found) → target ≡ Ok found → is_irregular found.kind ≡ true
-      → visits ≡ audited_if expected path (Err refusals.Irregular)
-      → VisitsTarget Knows path by_name expected target visits
+      → visits ≡ audited_if expected name.shown (Err refusals.Irregular)
+      → VisitsTarget Knows name by_name expected target visits
 
 -- ---- a name of a directory
 
@@ -160,6 +161,6 @@ pub data IsEntry (Knows : Fact → Type 0) (every : Bool) (directory name : List
       → is_never (selection_of every name) ≡ false
       → Knows (Leads (path_in directory name) false looked) → is_directory looked ≡ false
       → IsTarget Knows (path_in directory name) looked target → down ≡ false
-      → VisitsTarget Knows (path_in directory name) (is_always (selection_of every name))
+      → VisitsTarget Knows (own_name (path_in directory name)) (is_always (selection_of every name))
       (is_expected directory name) target visits
       → IsEntry Knows every directory name down visits

@@ -7,6 +7,7 @@ pub mod Entries
 pub mod Walk
 pub mod Below
 pub mod Named
+pub mod Sought
 pub mod Run
 pub mod Options
 pub mod Order

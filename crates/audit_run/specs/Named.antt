@@ -7,6 +7,7 @@ use Rattle.std.specs.Str.{IsUtf8, bytes_eq}
 use Rattle.line_pieces.specs.Visible.{visible_bytes}
 use Rattle.audit_lines.specs.declared.why.Refusal.{Refusal}
 use Rattle.audit_lines.specs.declared.why.Refusal.TheVariants as refusals
+use Rattle.krl_audit.specs.Audit.{FileName, own_name}
 use Rattle.audit_run.specs.Entries.{FailsAt, IsOpened, IsRead, VisitsTarget}
 use Rattle.audit_run.specs.Fact.{Fact, Leads, OpenFile, Opens}
 use Rattle.audit_run.specs.Names.{is_directory}
@@ -20,21 +21,22 @@ use Rattle.audit_run.specs.declared.file_kind.Found.{Found}
 
 -- A path that the command names and that is no directory is opened and read, also if it is a pipe,
 -- which has no key.
-pub data IsWaiting (Knows : Fact → Type 0) (path : List ℕ) (visits : List Visit) : Type 0 where
-  not_opened : (refusal : Refusal) → Knows (Opens path None (Err refusal))
-      → visits ≡ refused path refusal → IsWaiting Knows path visits
-  regular : (held : OpenFile) → Knows (Opens path None (Ok held)) → held.is_file ≡ true
-      → IsOpened Knows path held.identity held.bytes visits → IsWaiting Knows path visits
-  not_regular : (held : OpenFile) → Knows (Opens path None (Ok held)) → held.is_file ≡ false
-      → IsRead (FailsAt Knows path) path held.bytes None visits → IsWaiting Knows path visits
+pub data IsWaiting (Knows : Fact → Type 0) (name : FileName) (visits : List Visit) : Type 0 where
+  not_opened : (refusal : Refusal) → Knows (Opens name.shown None (Err refusal))
+      → visits ≡ refused name.shown refusal → IsWaiting Knows name visits
+  regular : (held : OpenFile) → Knows (Opens name.shown None (Ok held)) → held.is_file ≡ true
+      → IsOpened Knows name held.identity held.bytes visits → IsWaiting Knows name visits
+  not_regular : (held : OpenFile) → Knows (Opens name.shown None (Ok held))
+      → held.is_file ≡ false → IsRead (FailsAt Knows name.shown) name held.bytes None visits
+      → IsWaiting Knows name visits
 
 -- ---- standard input
 
 -- Standard input is read where it is named first. It has no more bytes where it is named again.
 abbrev pub IsInput : (Failed : Type 0) → (input : Option (Option (List ℕ))) → (path : List ℕ)
     → List Visit → Type 0
-IsInput Failed None path visits = visits ≡ Audited None path (Ok []) ∷ []
-IsInput Failed (Some bytes) path visits = IsRead (InputFails Failed) path bytes None visits
+IsInput Failed None path visits = visits ≡ Audited None (own_name path) (Ok []) ∷ []
+IsInput Failed (Some bytes) path visits = IsRead (InputFails Failed) (own_name path) bytes None visits
 
 abbrev pub is_input : List ℕ → Bool
 is_input path = bytes_eq path (codes "-")
@@ -56,7 +58,7 @@ pub data IsNamed (Knows : Fact → Type 0) (Failed : Type 0) (every whole : Bool
       → IsNamed Knows Failed every whole path input visits
   waiting : (found : Result Found Refusal) → is_input path ≡ false
       → Knows (Leads path true found) → is_directory found ≡ false
-      → IsWaiting Knows path visits → IsNamed Knows Failed every whole path input visits
+      → IsWaiting Knows (own_name path) visits → IsNamed Knows Failed every whole path input visits
   before_path : whole ≡ false → visits ≡ [] → IsNamed Knows Failed every whole path input visits
 
 -- ---- a name of a list of names
@@ -79,7 +81,8 @@ pub data IsOnList (Knows : Fact → Type 0) (every whole : Bool) (name : List �
       → IsDirectory Knows every whole name visits → IsOnList Knows every whole name visits
   here : (target : Result Found Refusal) → length name ≤ most_name → IsUtf8 name
       → Knows (Leads name true target) → is_directory target ≡ false
-      → VisitsTarget Knows name true true target visits → IsOnList Knows every whole name visits
+      → VisitsTarget Knows (own_name name) true true target visits
+      → IsOnList Knows every whole name visits
   before_name : whole ≡ false → visits ≡ [] → IsOnList Knows every whole name visits
 
 -- ---- one after another

@@ -2,9 +2,7 @@
 use Rattle.std.specs.Prelude.{◌≡◌, ℕ, List, [], Option, Some, None}
 use Rattle.std.specs.Borrow.{Bor}
 use Rattle.krl_arguments.specs.declared.task.Audit.{Audit}
-use Rattle.krl_entries.specs.Revocations.{Revocations}
-use Rattle.krl_arguments.specs.Task.{audit_by, list_name}
-use Rattle.text_index.specs.declared.indexing.TextIndex.{TextIndex}
+use Rattle.audit_run.specs.declared.order.Loaded.{Loaded}
 use Rattle.audit_run.specs.declared.order.Order.{Order}
 use Rattle.audit_run.specs.Options.{has_colours, shown_by}
 use Rattle.audit_run.specs.declared.options.Terminal.{Terminal}
@@ -14,13 +12,14 @@ abbrev pub name_or_nothing : Option (Bor (List ℕ)) → List ℕ
 name_or_nothing None = []
 name_or_nothing (Some name) = name.now
 
--- This audit is what the task asks for, by the keys of its canaries and by its texts, with its
--- findings in colour where the terminal shows colours.
-pub record IsOrder (task : Audit) (canaries : Option (Bor Revocations))
-    (texts : Option (Bor TextIndex)) (terminal : Terminal) (order : Order) : Type 0 where
-  pub list : order.list.now ≡ list_name (audit_by task)
-  pub canaries_are : order.canaries ≡ canaries
-  pub texts_are : order.texts ≡ texts
+-- This audit is what the task asks for, by what was read for it, with its findings in colour where
+-- the terminal shows colours.
+pub record IsOrder (task : Audit) (loaded : Loaded) (terminal : Terminal) (order : Order)
+    : Type 0 where
+  pub list : order.list ≡ loaded.list
+  pub canaries : order.canaries ≡ loaded.canaries
+  pub texts : order.texts ≡ loaded.texts
+  pub sought : order.sought ≡ loaded.sought
   pub shown : order.shown ≡ shown_by (record {
     quiet = task.quiet;
     all = task.all;

@@ -29,8 +29,9 @@ use Rattle.krl_format.specs.Krl.{SpelledSection, Spells}
 use Rattle.text_index.specs.NamingLines.{Register}
 use Rattle.krl_format.specs.declared.header.Header.{Header}
 use Rattle.audit_run.specs.Fact.{Fact}
-use Rattle.audit_run.specs.Named.{AreNamed, IsBroken, IsOnNames}
+use Rattle.audit_run.specs.Named.{AreNamed, Each, IsBroken, IsOnNames}
 use Rattle.audit_run.specs.Reading.{SomeFailed, left_in}
+use Rattle.audit_run.specs.Sought.{IsSought}
 use Rattle.audit_run.specs.Visits.{AreQuiet, AreTimely, State, Tally, Visit, all_tallied}
 use Rattle.audit_run.specs.Visits.{nothing_tallied}
 use Rattle.audit_run.specs.Visits.{visits_items}
@@ -40,6 +41,7 @@ use Rattle.audit_run.specs.declared.order.Order.{Order}
 use Rattle.audit_run.specs.declared.run.Queried.{Queried}
 use Rattle.audit_run.specs.declared.stop.Stop.{Stop}
 use Rattle.audit_run.specs.declared.stop.Stop.TheVariants as stops
+use Rattle.sshd_files.specs.declared.files.SshdFile.{SshdFile}
 
 -- ---- what is audited
 
@@ -93,6 +95,34 @@ IsGiven Knows every readers paths (Ok false) visits = AreUnread Knows every read
 IsGiven Knows every readers paths (Err stop) visits =
     AreGiven Knows every false readers paths visits
 
+-- First the files that sshd reads, and then what is given.
+pub data AreMet (Knows : Fact → Type 0) (every whole : Bool) (sought : List SshdFile)
+    (readers : Readers) (paths : List (Bor (List ℕ))) (visits : List Visit) : Type 0 where
+  in_sought : whole ≡ false → Each (IsSought Knows) false sought visits
+      → AreMet Knows every whole sought readers paths visits
+  after_sought : (first rest : List Visit) → Each (IsSought Knows) true sought first
+      → AreGiven Knows every whole readers paths rest → visits ≡ first ++ rest
+      → AreMet Knows every whole sought readers paths visits
+
+-- The files that sshd reads, and then names that cannot be read to their end.
+pub record AreCutOff (Knows : Fact → Type 0) (every : Bool) (sought : List SshdFile)
+    (readers : Readers) (visits : List Visit) : Type 0 where
+  pub first : List Visit
+  pub rest : List Visit
+  pub before : Each (IsSought Knows) true sought first
+  pub unread : AreUnread Knows every readers rest
+  pub visits_are : visits ≡ first ++ rest
+
+-- all, or names that cannot be read to their end; or the audit was stopped
+abbrev pub IsMet : (Fact → Type 0) → (every : Bool) → List SshdFile → Readers
+    → List (Bor (List ℕ)) → Result Bool Stop → List Visit → Type 0
+IsMet Knows every sought readers paths (Ok true) visits =
+    AreMet Knows every true sought readers paths visits
+IsMet Knows every sought readers paths (Ok false) visits =
+    AreCutOff Knows every sought readers visits
+IsMet Knows every sought readers paths (Err stop) visits =
+    AreMet Knows every false sought readers paths visits
+
 -- ---- what is printed
 
 -- the last object, which has the SHA-256 of the list
@@ -145,11 +175,11 @@ pub record IsAudit (Knows : Fact → Type 0) (order : Order) (queried : Queried)
     (stop : Option RunFault) (run : List Item) : Type 0 where
   pub visits : List Visit
   pub whole : Bool
-  pub given : AreGiven Knows order.every_file whole readers order.paths.now visits
+  pub met : AreMet Knows order.every_file whole order.sought.now readers order.paths.now visits
   pub timely : AreTimely answers old visits
   pub quiet : order.shown.revoked ≡ false
       → AreQuiet answers (not whole) old visits
-  pub is_run : IsRunOf (AreUnread Knows order.every_file readers visits) order
+  pub is_run : IsRunOf (AreCutOff Knows order.every_file order.sought.now readers visits) order
       (visits_items answers order.shown visits)
       (last_items order.list.now queried tally) whole tally stop run
   pub tally_is : stop ≡ None → tally ≡ all_tallied answers old visits

@@ -16,7 +16,7 @@ use Rattle.run_output.specs.Printer.{HasSaid, Printer}
 use Rattle.run_output.specs.Run.{Item}
 use Rattle.krl_types.specs.Subject.{Subject}
 use Rattle.audit_text.specs.Answer.{Answer}
-use Rattle.krl_audit.specs.Audit.{JudgesAs, file_items, file_kinds, said_if}
+use Rattle.krl_audit.specs.Audit.{FileName, JudgesAs, file_items, file_kinds, own_name, said_if}
 use Rattle.krl_audit.specs.Counts.{all_counted, one_more}
 use Rattle.audit_text.specs.Same.{same_said}
 use Rattle.krl_audit.specs.declared.counts.Counts.{Counts}
@@ -34,14 +34,14 @@ use Rattle.audit_run.specs.declared.stop.Stop.TheVariants as stops
 -- A visit of an audit.
 pub data Visit : Type 0 where
   -- a file is audited, by its bytes or why there are none; a regular one that was opened has a key
-  Audited : (key : Option (List ℕ)) (name : List ℕ) → Result (List ℕ) Refusal → Visit
+  Audited : (key : Option (List ℕ)) (name : FileName) → Result (List ℕ) Refusal → Visit
   -- a name leads to a file that was audited before: it is printed, or counted alone
   Same : (told : Bool) (key name : List ℕ) → Visit
   -- this many names of a directory are passed over for this reason
   Skipped : Skip → ℕ → Visit
 
 abbrev pub refused : List ℕ → Refusal → List Visit
-refused name refusal = Audited None name (Err refusal) ∷ []
+refused name refusal = Audited None (own_name name) (Err refusal) ∷ []
 
 -- ---- what is printed
 
@@ -144,7 +144,7 @@ tally_with key tally counts = record {
 
 abbrev pub tallied : (Subject → Answer) → Tally → Visit → Tally
 tallied answers tally (Audited key name content) =
-    tally_with key tally (all_counted tally.counts (file_kinds answers name content))
+    tally_with key tally (all_counted tally.counts (file_kinds answers name.read_as content))
 tallied answers tally (Same told key name) =
     record { counts = tally.counts; files = with_same key tally.files }
 tallied answers tally (Skipped why count) =

@@ -4,7 +4,7 @@ ghost use Rattle.std.specs.Prelude.{◌≡◌, ℕ, List, [], Option, IfSome, If
 ghost use Rattle.std.specs.Prelude.{string_bytes};
 ghost use Rattle.std.specs.Io.KnownBytes.{Consumes};
 ghost use Rattle.std.specs.Result.{result_err};
-ghost use Rattle.krl_audit.specs.Audit.{content_of};
+ghost use Rattle.krl_audit.specs.Audit.{content_of, name_by};
 ghost use Rattle.audit_run.specs.Paths.{path_in};
 ghost use Rattle.audit_run.specs.Entries.{FailsAt, IsEntry, IsOpened, IsPrivateFile, IsRead};
 ghost use Rattle.audit_run.specs.Entries.{IsTarget, VisitsTarget, audited_if, is_always};
@@ -22,14 +22,15 @@ use crate::selection::{Selection, selection_of};
 use crate::stop::Stop;
 use crate::tree::Tree;
 use audit_lines::{Refusal, reads_every};
+use krl_audit::FileName;
 use std::str;
 
-/// A path that leads to no directory; whether a file there is read by its name, or only if it
-/// begins as a private key file; and whether a file is expected there, since sshd or ssh reads one
-/// of this name.
+/// A path that leads to no directory, and the name by which a file there is read; whether it is read
+/// by its name, or only if it begins as a private key file; and whether a file is expected there,
+/// since sshd or ssh reads one of this name.
 #[derive(Clone, Copy)]
 pub(crate) struct Entry<'p> {
-    pub(crate) path: &'p str,
+    pub(crate) name: FileName<'p>,
     pub(crate) by_name: bool,
     pub(crate) expected: bool,
 }
@@ -54,7 +55,7 @@ pub(crate) fn audit_entry<T: Tree, W: Screen>(
     let alloc = round.auditor.run.alloc;
     let Ok(text) = str::from_utf8(name) else {
         let shown = shown_path(alloc, place.path, name)?;
-        round.audit(None, shown.as_str(), Err(Refusal::Open))?;
+        round.audit(shown.as_str(), Err(Refusal::Open))?;
         return Ok(None);
     };
     let path = path_in(alloc, place.path, text)?;
@@ -66,12 +67,16 @@ pub(crate) fn audit_entry<T: Tree, W: Screen>(
     if is_directory(looked) {
         return Ok(Some(path));
     }
+    let found_at = path.as_str();
     let entry = Entry {
-        path: path.as_str(),
+        name: FileName {
+            shown: found_at,
+            read_as: found_at,
+        },
         by_name: is_always(selection),
         expected: is_always(selection_of(reads_every(place.path.as_bytes()), name)),
     };
-    let target = target_of(tree, entry.path, looked);
+    let target = target_of(tree, entry.name.shown, looked);
     audit_target(tree, round, entry, target)?;
     Ok(None)
 }
@@ -133,18 +138,19 @@ pub(crate) fn audit_target<T: Tree, W: Screen>(
     entry: Entry<'_>,
     target: Result<Found, Refusal>,
 ) -> Result<(), Stop>
-    ensures { Goes result (λ _. VisitsTarget (T.states tree.now) entry.entry.path.now
+    ensures { Goes result (λ _. VisitsTarget (T.states tree.now) (name_by entry.entry.name)
         entry.entry.by_name entry.entry.expected target) round.old round.new }
 {
+    let path = entry.name.shown;
     let found = match target {
         Ok(found) => found,
-        Err(refusal) => return round.audit(None, entry.path, Err(refusal)),
+        Err(refusal) => return round.audit(path, Err(refusal)),
     };
     match found.kind {
         FileKind::File => audit_file(tree, round, entry, found),
-        FileKind::Null => audit_if(round, entry.by_name, entry.path, Ok(b"")),
+        FileKind::Null => audit_if(round, entry.by_name, path, Ok(b"")),
         FileKind::Directory | FileKind::Link | FileKind::Other => {
-            audit_if(round, entry.expected, entry.path, Err(Refusal::Irregular))
+            audit_if(round, entry.expected, path, Err(Refusal::Irregular))
         }
     }
 }
@@ -160,7 +166,7 @@ fn audit_if<W: Screen>(
         round.old round.new }
 {
     if audited {
-        round.audit(None, path, content)
+        round.audit(path, content)
     } else {
         round.skip(Skip::ByName, 1);
         Ok(())
@@ -175,15 +181,16 @@ fn audit_file<T: Tree, W: Screen>(
     found: Found,
 ) -> Result<(), Stop>
     requires { found.kind ≡ File }
-    ensures { Goes result (λ _. VisitsTarget (T.states tree.now) entry.entry.path.now
+    ensures { Goes result (λ _. VisitsTarget (T.states tree.now) (name_by entry.entry.name)
         entry.entry.by_name entry.entry.expected (Ok found)) round.old round.new }
 {
-    let opened = match tree.open(entry.path, Some(found))? {
+    let path = entry.name.shown;
+    let opened = match tree.open(path, Some(found))? {
         Ok(opened) => opened,
-        Err(refusal) => return round.audit(None, entry.path, Err(refusal)),
+        Err(refusal) => return round.audit(path, Err(refusal)),
     };
     if !opened.is_file {
-        return round.audit(None, entry.path, Err(Refusal::Irregular));
+        return round.audit(path, Err(Refusal::Irregular));
     }
     let Opened { identity, file, .. } = opened;
     let text = round.take_text();
@@ -193,9 +200,9 @@ fn audit_file<T: Tree, W: Screen>(
         text,
     };
     if entry.by_name {
-        audit_opened(tree, round, entry.path, reading)
+        audit_opened(tree, round, entry.name, reading)
     } else {
-        audit_private(tree, round, entry.path, reading)
+        audit_private(tree, round, entry.name, reading)
     }
 }
 
@@ -204,22 +211,22 @@ fn audit_file<T: Tree, W: Screen>(
 fn audit_private<T: Tree, W: Screen>(
     tree: &T,
     round: &mut Round<'_, '_, W>,
-    path: &str,
+    name: FileName<'_>,
     reading: Reading<T::File>,
 ) -> Result<(), Stop>
     requires working { T.File.has_failed reading.file ≡ false }
     requires empty { reading.text.items ≡ [] }
-    ensures { Goes result (λ _. IsPrivateFile (T.states tree.now) path.now reading.identity
-        (T.File.left reading.file)) round.old round.new }
+    ensures { Goes result (λ _. IsPrivateFile (T.states tree.now) (name_by name.entry)
+        reading.identity (T.File.left reading.file)) round.old round.new }
 {
     let mut reading = reading;
     if !read_front(&mut reading.file, &mut reading.text)? {
-        let refusal = tree.why_unread(path, &reading.file);
+        let refusal = tree.why_unread(name.shown, &reading.file);
         round.text = reading.text;
-        return round.audit(None, path, Err(refusal));
+        return round.audit(name.shown, Err(refusal));
     }
     if is_private(reading.text.as_slice()) {
-        return audit_opened(tree, round, path, reading);
+        return audit_opened(tree, round, name, reading);
     }
     round.text = reading.text;
     round.skip(Skip::ByName, 1);
@@ -230,21 +237,21 @@ fn audit_private<T: Tree, W: Screen>(
 pub(crate) fn audit_opened<T: Tree, W: Screen>(
     tree: &T,
     round: &mut Round<'_, '_, W>,
-    path: &str,
+    name: FileName<'_>,
     reading: Reading<T::File>,
 ) -> Result<(), Stop>
     requires { T.File.has_failed reading.file ≡ false }
     ensures { (bytes : Option (List ℕ))
         → Consumes bytes (T.File.left reading.file) reading.text.items
-        → Goes result (λ _. IsOpened (T.states tree.now) path.now reading.identity bytes)
-        round.old round.new }
+        → Goes result (λ _. IsOpened (T.states tree.now) (name_by name.entry) reading.identity
+        bytes) round.old round.new }
 {
-    let key = key_of(path.as_bytes(), reading.identity);
+    let key = key_of(name.read_as.as_bytes(), reading.identity);
     if round.files.has(key) {
         round.text = reading.text;
-        round.say_same(key, path)
+        round.say_same(key, name.shown)
     } else {
-        audit_read(tree, round, path, Some(key), reading)
+        audit_read(tree, round, name, Some(key), reading)
     }
 }
 
@@ -252,7 +259,7 @@ pub(crate) fn audit_opened<T: Tree, W: Screen>(
 pub(crate) fn audit_read<T: Tree, W: Screen>(
     tree: &T,
     round: &mut Round<'_, '_, W>,
-    path: &str,
+    name: FileName<'_>,
     key: Option<Key>,
     reading: Reading<T::File>,
 ) -> Result<(), Stop>
@@ -260,14 +267,14 @@ pub(crate) fn audit_read<T: Tree, W: Screen>(
     requires working { T.File.has_failed reading.file ≡ false }
     ensures { (bytes : Option (List ℕ))
         → Consumes bytes (T.File.left reading.file) reading.text.items
-        → Goes result (λ _. IsRead (FailsAt (T.states tree.now) path.now) path.now bytes key)
-        round.old round.new }
+        → Goes result (λ _. IsRead (FailsAt (T.states tree.now) name.entry.shown.now)
+        (name_by name.entry) bytes key) round.old round.new }
 {
     let Reading { file, text, .. } = reading;
     let mut file = file;
     let mut text = text;
-    let read = read_file(tree, path, &mut file, &mut text)?;
-    let done = round.audit(key, path, content_of(read, text.as_slice()));
+    let read = read_file(tree, name.shown, &mut file, &mut text)?;
+    let done = round.audit_as(key, name, content_of(read, text.as_slice()));
     round.text = text;
     done
 }

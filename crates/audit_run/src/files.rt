@@ -148,9 +148,9 @@ impl Files {
     }
 }
 
-/// The key of the file with this identity, as its path says that it is read.
-pub(crate) fn key_of(path: &[u8], identity: Identity) -> Key
-    ensures { result ≡ key_of path.now identity }
+/// The key of the file with this identity, as this name says that it is read.
+pub(crate) fn key_of(read_as: &[u8], identity: Identity) -> Key
+    ensures { result ≡ key_of read_as.now identity }
 {
     [
         identity.device,
@@ -158,7 +158,7 @@ pub(crate) fn key_of(path: &[u8], identity: Identity) -> Key
         identity.size,
         identity.changed,
         identity.nanoseconds,
-        way_of(path),
+        way_of(read_as),
     ]
 }
 

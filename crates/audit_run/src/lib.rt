@@ -17,6 +17,7 @@ mod run;
 mod selection;
 mod sending;
 mod sorting;
+mod sought;
 mod stop;
 mod summary;
 mod tree;
@@ -25,7 +26,7 @@ mod zero_ended;
 
 pub use file_kind::{FileKind, Found, Identity, Opened};
 pub use options::{Options, Terminal};
-pub use order::Order;
+pub use order::{Loaded, Order};
 pub use paths::{path_in, shown_path};
 pub use progress::{push_progress, push_wipe};
 pub use round::Screen;

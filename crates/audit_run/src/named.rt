@@ -3,6 +3,7 @@
 ghost use Rattle.std.specs.Prelude.{◌≡◌, ◌+◌, ◌<◌, ◌≤◌, ℕ, List, false, length, nat_lt, take};
 ghost use Rattle.std.specs.Prelude.{IfSome, Ok, Some};
 ghost use Rattle.line_pieces.specs.Visible.{visible_bytes};
+ghost use Rattle.krl_audit.specs.Audit.{name_by};
 ghost use Rattle.audit_run.specs.Named.{AreNamed, IsBroken, IsInput, IsNamed, IsOnList};
 ghost use Rattle.audit_run.specs.Named.{IsOnNames, IsWaiting, input_after, most_name};
 ghost use Rattle.audit_run.specs.Reading.{SomeFailed, left_in};
@@ -18,6 +19,7 @@ use crate::walk::audit_directory;
 use crate::zero_ended::ZeroEnded;
 use audit_lines::Refusal;
 use byte_streams::Source;
+use krl_audit::FileName;
 use line_pieces::visible_name;
 use std::str;
 
@@ -64,7 +66,11 @@ fn audit_named<T: Tree, I: Source + Drop, W: Screen>(
     if is_directory(found) {
         return audit_directory(tree, round, every, path);
     }
-    audit_waiting(tree, round, path)
+    let name = FileName {
+        shown: path,
+        read_as: path,
+    };
+    audit_waiting(tree, round, name)
 }
 
 // Audits standard input, unless it was read before.
@@ -78,28 +84,29 @@ fn audit_input<I: Source + Drop, W: Screen>(
         path.now) round.old round.new }
 {
     let Some(input) = input else {
-        return round.audit(None, path, Ok(b""));
+        return round.audit(path, Ok(b""));
     };
     let mut input = input;
     let mut text = round.take_text();
     let read = read_input(&mut input, &mut text)?;
-    let done = round.audit(None, path, content_of(read, text.as_slice()));
+    let done = round.audit(path, content_of(read, text.as_slice()));
     round.text = text;
     done
 }
 
-// Audits what the command names and is no directory, or says why it cannot. A regular file is
-// audited once.
-fn audit_waiting<T: Tree, W: Screen>(
+/// Audits what the command names and is no directory, or says why it cannot. A regular file is
+/// audited once.
+pub(crate) fn audit_waiting<T: Tree, W: Screen>(
     tree: &T,
     round: &mut Round<'_, '_, W>,
-    path: &str,
+    name: FileName<'_>,
 ) -> Result<(), Stop>
-    ensures { Goes result (λ _. IsWaiting (T.states tree.now) path.now) round.old round.new }
+    ensures { Goes result (λ _. IsWaiting (T.states tree.now) (name_by name.entry)) round.old
+        round.new }
 {
-    let opened = match tree.open(path, None)? {
+    let opened = match tree.open(name.shown, None)? {
         Ok(opened) => opened,
-        Err(refusal) => return round.audit(None, path, Err(refusal)),
+        Err(refusal) => return round.audit(name.shown, Err(refusal)),
     };
     let Opened {
         is_file,
@@ -113,9 +120,9 @@ fn audit_waiting<T: Tree, W: Screen>(
         text,
     };
     if is_file {
-        audit_opened(tree, round, path, reading)
+        audit_opened(tree, round, name, reading)
     } else {
-        audit_read(tree, round, path, None, reading)
+        audit_read(tree, round, name, None, reading)
     }
 }
 
@@ -184,30 +191,33 @@ fn audit_text<T: Tree, W: Screen>(
         return audit_directory(tree, round, every, path);
     }
     let entry = Entry {
-        path,
+        name: FileName {
+            shown: path,
+            read_as: path,
+        },
         by_name: true,
         expected: true,
     };
     audit_target(tree, round, entry, found)
 }
 
-// Whether a name is longer than that of a file.
-fn is_too_long(name: &[u8]) -> bool
+/// Whether a name is longer than that of a file.
+pub(crate) fn is_too_long(name: &[u8]) -> bool
     ensures { result ≡ nat_lt most_name (length name.now) }
 {
     name.len() > NAME_LIMIT
 }
 
-// The front of a name that is too long.
-fn front_of(name: &[u8]) -> &[u8]
+/// The front of a name that is too long.
+pub(crate) fn front_of(name: &[u8]) -> &[u8]
     requires { most_name < length name.now }
     ensures { result.now ≡ take most_name name.now }
 {
     &name[..NAME_LIMIT]
 }
 
-// Says that a name cannot be opened, as the audit shows names that are not UTF-8.
-fn refuse_name<W: Screen>(
+/// Says that a name cannot be opened, as the audit shows names that are not UTF-8.
+pub(crate) fn refuse_name<W: Screen>(
     round: &mut Round<'_, '_, W>,
     name: &[u8],
     refusal: Refusal,
@@ -216,5 +226,5 @@ fn refuse_name<W: Screen>(
         round.old round.new }
 {
     let shown = visible_name(round.auditor.run.alloc, name)?;
-    round.audit(None, shown.as_str(), Err(refusal))
+    round.audit(shown.as_str(), Err(refusal))
 }

@@ -8,6 +8,7 @@ use krl_arguments::Audit;
 use krl_audit::Shown;
 use krl_entries::Revocations;
 use span_sets::Held;
+use sshd_files::SshdFile;
 use text_index::TextIndex;
 
 /// An audit that is asked for.
@@ -19,6 +20,8 @@ pub struct Order<'a> {
     pub canaries: Option<&'a Revocations<Held>>,
     /// The texts whose lines explain the findings, if any are given.
     pub texts: Option<&'a TextIndex<'a>>,
+    /// The files that sshd reads, which are audited first.
+    pub sought: &'a [SshdFile],
     /// Which findings are printed, and how.
     pub shown: Shown,
     /// Whether every regular file of a directory is read, whatever its name.
@@ -29,16 +32,24 @@ pub struct Order<'a> {
     pub paths: &'a [&'a str],
 }
 
+/// What was read for an audit, but for the list.
+#[derive(Clone, Copy)]
+pub struct Loaded<'a> {
+    /// The name of the list.
+    pub list: &'a str,
+    /// Keys that the list revokes on purpose: they are no findings.
+    pub canaries: Option<&'a Revocations<Held>>,
+    /// The texts whose lines explain the findings, if any are given.
+    pub texts: Option<&'a TextIndex<'a>>,
+    /// The files that sshd reads.
+    pub sought: &'a [SshdFile],
+}
+
 impl<'a> Order<'a> {
-    /// The audit that this task of the command asks for, given the keys of its canaries and its
-    /// texts, with its findings in colour where the terminal shows colours.
-    pub fn of(
-        task: &'a Audit<'a>,
-        canaries: Option<&'a Revocations<Held>>,
-        texts: Option<&'a TextIndex<'a>>,
-        terminal: Terminal,
-    ) -> Order<'a>
-        ensures { IsOrder task.now canaries.entry texts.entry terminal result }
+    /// The audit that this task of the command asks for, by what was read for it, with its findings
+    /// in colour where the terminal shows colours.
+    pub fn of(task: &'a Audit<'a>, loaded: Loaded<'a>, terminal: Terminal) -> Order<'a>
+        ensures { IsOrder task.now loaded.entry terminal result }
     {
         let options = Options {
             quiet: task.quiet,
@@ -47,9 +58,10 @@ impl<'a> Order<'a> {
             colours: terminal.has_colours(),
         };
         Order {
-            list: task.list_name(),
-            canaries,
-            texts,
+            list: loaded.list,
+            canaries: loaded.canaries,
+            texts: loaded.texts,
+            sought: loaded.sought,
             shown: options.shown(),
             every_file: task.every_file,
             names_from: task.names_from.unwrap_or(""),

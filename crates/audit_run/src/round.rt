@@ -2,7 +2,7 @@
 
 ghost use Rattle.std.specs.Prelude.{◌≡◌, ◌&&◌, ◌∷◌, [], IfSome, None, not, true, false};
 ghost use Rattle.std.specs.Result.{result_err};
-ghost use Rattle.krl_audit.specs.Audit.{content_of};
+ghost use Rattle.krl_audit.specs.Audit.{content_of, name_by, own_name};
 ghost use Rattle.audit_run.specs.Visits.{Audited, Meets, Same, Skipped, at_start, is_seen};
 ghost use Rattle.audit_run.specs.Visits.{is_told, stop_for};
 
@@ -12,7 +12,7 @@ use crate::stop::Stop;
 use crate::summary::Summary;
 use audit_lines::Refusal;
 use byte_streams::Sink;
-use krl_audit::{Auditor, Judge, Shown};
+use krl_audit::{Auditor, FileName, Judge, Shown};
 use krl_format::Stated;
 use run_faults::{Cause, RunFault};
 use run_output::Printer;
@@ -104,16 +104,29 @@ impl<'q, 'w, W: Screen> Round<'q, 'w, W> {
         text
     }
 
+    /// Audits the bytes of a file whose lines are read by its own name, or says why there are none,
+    /// and counts it.
+    pub(crate) fn audit(&mut self, name: &str, content: Result<&[u8], Refusal>) -> Result<(), Stop>
+        ensures { Meets (Audited None (own_name name.now) (content_of content.entry) ∷ [])
+            (result_err result) self.old self.new }
+    {
+        let name = FileName {
+            shown: name,
+            read_as: name,
+        };
+        self.audit_as(None, name, content)
+    }
+
     /// Audits the bytes of a file, or says why there are none, and counts it. One with a key was
     /// not audited before.
-    pub(crate) fn audit(
+    pub(crate) fn audit_as(
         &mut self,
         key: Option<Key>,
-        name: &str,
+        name: FileName<'_>,
         content: Result<&[u8], Refusal>,
     ) -> Result<(), Stop>
         requires { IfSome key (λ new. is_seen self.old.tally.files new ≡ false) }
-        ensures { Meets (Audited key name.now (content_of content.entry) ∷ [])
+        ensures { Meets (Audited key (name_by name.entry) (content_of content.entry) ∷ [])
             (result_err result) self.old self.new }
     {
         self.files.keep(key)?;

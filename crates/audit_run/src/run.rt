@@ -4,7 +4,7 @@ ghost use Rattle.std.specs.Prelude.{◌≡◌, Option, Some, false, IfSome};
 ghost use Rattle.std.specs.Result.{result_err};
 ghost use Rattle.run_output.specs.Carries.{Carries};
 ghost use Rattle.krl_audit.specs.Audit.{IsUsable};
-ghost use Rattle.audit_run.specs.Run.{AuditsAll, EndsAuditBy, EndsAuditRun, HasNames, IsGiven};
+ghost use Rattle.audit_run.specs.Run.{AuditsAll, EndsAuditBy, EndsAuditRun, HasNames, IsGiven, IsMet};
 ghost use Rattle.audit_run.specs.Run.{is_hashed, last_items, names_fault, readers_of, sha256_if};
 ghost use Rattle.audit_run.specs.Run.{stop_fault, summary_of, summary_unless};
 ghost use Rattle.audit_run.specs.Visits.{Took};
@@ -12,6 +12,7 @@ ghost use Rattle.audit_run.specs.Visits.{Took};
 use crate::named::{audit_listed, audit_paths};
 use crate::order::Order;
 use crate::round::{Round, Screen};
+use crate::sought::audit_sought;
 use crate::stop::Stop;
 use crate::summary::Summary;
 use crate::tree::Tree;
@@ -211,15 +212,33 @@ fn audit_all<'a, T: Tree, N: Source + Drop, I: Source + Drop, W: Screen>(
         result round.old round.new }
     ensures writer { round.new.printer.writer ≡ round.old.printer.writer }
 {
-    match audit_given(round, order, given) {
+    match audit_met(round, order, given) {
         Ok(true) => say_last(round, order, queried).err(),
         Ok(false) => Some(names_fault(order)),
         Err(stop) => stop_fault(stop),
     }
 }
 
-// Audits all files, first those whose names a reader gives. Returns false if the names cannot be
-// read to their end.
+// Audits all files, first those that sshd reads. Returns false if names cannot be read to their
+// end.
+fn audit_met<T: Tree, N: Source + Drop, I: Source + Drop, W: Screen>(
+    round: &mut Round<'_, '_, W>,
+    order: &Order<'_>,
+    given: Sources<'_, T, N, I>,
+) -> Result<bool, Stop>
+    requires names { IfSome given.names (λ names. N.has_failed names ≡ false) }
+    requires input { I.has_failed given.input ≡ false }
+    ensures { Took (IsMet (T.states given.entry.tree.now) order.now.every_file
+        order.now.sought.now
+        (readers_of N.left N.has_failed given.entry.names I.left I.has_failed given.entry.input)
+        order.now.paths.now) result round.old round.new }
+{
+    audit_sought(given.tree, round, order.sought)?;
+    audit_given(round, order, given)
+}
+
+// Audits the files whose names a reader gives, and then those that the command names. Returns false
+// if the names cannot be read to their end.
 fn audit_given<T: Tree, N: Source + Drop, I: Source + Drop, W: Screen>(
     round: &mut Round<'_, '_, W>,
     order: &Order<'_>,

@@ -4,23 +4,23 @@
 ghost use Rattle.std.specs.Prelude.{◌≡◌, true};
 ghost use Rattle.krl_types.specs.Subject.{Subject};
 ghost use Rattle.audit_text.specs.Answer.{Answer};
-ghost use Rattle.krl_audit.specs.Audit.{JudgesAs, ToldFile, content_of};
+ghost use Rattle.krl_audit.specs.Audit.{JudgesAs, ToldFile, content_of, name_by};
 ghost use Rattle.run_output.specs.Carries.{Carries};
 ghost use Rattle.audit_run.specs.Visits.{same_items};
 
 use audit_lines::Refusal;
 use byte_streams::Sink;
-use krl_audit::Auditor;
+use krl_audit::{Auditor, FileName};
 use run_faults::RunFault;
 
 /// Audits a file, and sends its findings.
 pub(crate) fn audit_and_send<'a, W: Sink>(
     auditor: &mut Auditor<'_, '_, W>,
-    name: &'a str,
+    name: FileName<'a>,
     content: Result<&[u8], Refusal>,
 ) -> Result<(), RunFault<'a>>
     ensures told { (answers : Subject → Answer) → JudgesAs auditor.old.judge answers
-        → ToldFile answers auditor.old.judge.shown name.now
+        → ToldFile answers auditor.old.judge.shown (name_by name.entry)
         (content_of content.entry) result auditor.old.run.printer auditor.new.run.printer
         auditor.old.counts auditor.new.counts }
     ensures judge { auditor.new.judge ≡ auditor.old.judge }

@@ -66,7 +66,7 @@ fn walk<T: Tree, W: Screen>(
         };
         take_turn(tree, round, every, last, &mut entered)?;
     }
-    round.audit(None, path, Err(Refusal::Read))
+    round.audit(path, Err(Refusal::Read))
 }
 
 // Goes to the next name of the directory that was entered last, or leaves it.
@@ -142,7 +142,7 @@ fn enter<T: Tree, W: Screen>(
             Ok(Some(Entered { path, every, names }))
         }
         Err(refusal) => {
-            round.audit(None, path.as_str(), Err(refusal))?;
+            round.audit(path.as_str(), Err(refusal))?;
             Ok(None)
         }
     }
@@ -167,7 +167,7 @@ fn end_directory<W: Screen>(
     if is_settled(every, round.since) {
         Ok(())
     } else {
-        round.audit(None, path, Err(Refusal::NoFile))
+        round.audit(path, Err(Refusal::NoFile))
     }
 }
 

@@ -13,4 +13,5 @@ mod logins;
 mod names;
 mod page;
 mod shelf;
+mod sought;
 mod texts;

@@ -303,6 +303,8 @@ refusal_free refusals.Kernel = refl
 refusal_free refusals.Open = refl
 refusal_free refusals.Read = refl
 refusal_free refusals.TooLong = refl
+refusal_free refusals.NotAsked = refl
+refusal_free refusals.Wildcards = refl
 
 why_free : (why : Why) → IsCount why → HasNoEscape (why_text why)
 why_free (whys.Key (key_causes.Line fault)) small = line_free fault

@@ -1,7 +1,6 @@
 -- The end of a check.
 use Rattle.std.proofs.Common.{◌≡◌, ℕ, ◌||◌, Bool, true, false, List, [], ◌∷◌, ◌++◌, Option, Some, None, Result, Ok, Err, refl, ap, ◌∙◌}
 use Rattle.std.specs.Prelude.{OnOk, is_some}
-use Rattle.std.specs.Borrow.{Bor}
 use Rattle.std.specs.Result.{result_err}
 use Rattle.run_faults.specs.RunFault.{RunFault}
 use Rattle.run_output.specs.Carries.{Carries, Reaches}
@@ -14,13 +13,13 @@ use Rattle.krl_arguments.specs.declared.task.Check.{Check}
 use Rattle.krl_format.specs.declared.header.Header.{Header}
 use Rattle.list_conditions.specs.Check.{EndsCheck, check_status}
 use Rattle.any_list.specs.Told.{Reading}
-use Rattle.text_entries.specs.AuthorityNames.{NamedKeys}
 use Rattle.check_run.specs.Files.{Named}
 use Rattle.any_list.specs.List.{stated_by}
 use Rattle.check_run.specs.Run.{ChecksAll, EndsBeside, EndsChecked, EndsIf}
 use Rattle.check_run.specs.Version.{PrintsVersion}
 use Rattle.check_run.specs.declared.limits.Unanswered.{Unanswered}
 use Rattle.check_run.specs.declared.limits.Limits.{Limits}
+use Rattle.check_run.specs.declared.limits.Loaded.{Loaded}
 
 some_is : {A : Type 0} (x : A) → Some x ≡ None → ⊥
 some_is x is = cc
@@ -85,10 +84,10 @@ ends_there items before taken taken' failed failed' status fault ends is_taken i
 
 -- ---- the list is read
 
-pub ends_version : (only : Bool) (told : List Reading) (name bytes : List ℕ) (task : Check) (named : Option (Bor NamedKeys)) (before after : Option (List ℕ)) (failed : Bool) (result : Result Done Unanswered) (header : Option Header)
-    → only ≡ true → told ≡ [] → PrintsVersion name (stated_by header) before after failed result → EndsIf only told name bytes header task named before after failed result
-ends_version only told name bytes task named before after failed result header is none prints = rw is (none, prints)
+pub ends_version : (only : Bool) (told : List Reading) (name bytes : List ℕ) (task : Check) (loaded : Loaded) (before after : Option (List ℕ)) (failed : Bool) (result : Result Done Unanswered) (header : Option Header)
+    → only ≡ true → told ≡ [] → PrintsVersion name (stated_by header) before after failed result → EndsIf only told name bytes header task loaded before after failed result
+ends_version only told name bytes task loaded before after failed result header is none prints = rw is (none, prints)
 
-pub ends_beside : (only : Bool) (told : List Reading) (name bytes : List ℕ) (task : Check) (named : Option (Bor NamedKeys)) (before after : Option (List ℕ)) (failed : Bool) (result : Result Done Unanswered) (header : Option Header)
-    → only ≡ false → EndsBeside told name bytes task named before after failed result → EndsIf only told name bytes header task named before after failed result
-ends_beside only told name bytes task named before after failed result header is ends = rw is ends
+pub ends_beside : (only : Bool) (told : List Reading) (name bytes : List ℕ) (task : Check) (loaded : Loaded) (before after : Option (List ℕ)) (failed : Bool) (result : Result Done Unanswered) (header : Option Header)
+    → only ≡ false → EndsBeside told name bytes task loaded before after failed result → EndsIf only told name bytes header task loaded before after failed result
+ends_beside only told name bytes task loaded before after failed result header is ends = rw is ends

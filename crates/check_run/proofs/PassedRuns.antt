@@ -15,6 +15,7 @@ use Rattle.check_run.specs.Limits.{AreLimits, IsLostOf}
 use Rattle.check_run.specs.Run.{EndsBeside, EndsCheckRun, EndsChecked, EndsIf, EndsRefused, Judged, beside, clockless, list_fails, lost_unknown, other_refused, read, refused}
 use Rattle.check_run.specs.Superset.{IsListRead, RevokesAll}
 use Rattle.check_run.specs.declared.limits.Limits.{Limits}
+use Rattle.check_run.specs.declared.limits.Loaded.{Loaded}
 use Rattle.check_run.specs.declared.lists.Lost.{Lost}
 use Rattle.check_run.proofs.Passing.{passed}
 
@@ -41,15 +42,15 @@ revokes_all told name own task named list before after losts (Some gone) other i
       all = passed own of.entries list task gone limits_are of.are passes;
     }
 
-revokes_checked : (told later first files : List Reading) (name bytes : List ℕ) (task : Check) (named : Option (Bor NamedKeys)) (limits : Limits) (before after : Option (List ℕ)) (failed : Bool) (status : ℕ) (fault : Option RunFault) (other : Bor (List ℕ))
-    → told ≡ ListRead name (Ok bytes) ∷ later → later ≡ first ++ files → AreLimits first bytes task named limits → EndsChecked files name bytes task limits before after failed status fault → status ≡ 0 → task.superset_of ≡ Some other → RevokesAll told name other.now
-revokes_checked told later first files name bytes task named limits before after failed status fault other told_is later_is are ends zero same =
+revokes_checked : (told later first files : List Reading) (name bytes : List ℕ) (task : Check) (loaded : Loaded) (limits : Limits) (before after : Option (List ℕ)) (failed : Bool) (status : ℕ) (fault : Option RunFault) (other : Bor (List ℕ))
+    → told ≡ ListRead name (Ok bytes) ∷ later → later ≡ first ++ files → AreLimits first bytes task loaded limits → EndsChecked files name bytes task limits before after failed status fault → status ≡ 0 → task.superset_of ≡ Some other → RevokesAll told name other.now
+revokes_checked told later first files name bytes task loaded limits before after failed status fault other told_is later_is are ends zero same =
     let list = ends.is.list in
     let beside = are.others in
     let fails = no_failure (is_some fault || ends.unread) ends.fails (sym ends.ends.status_is ∙ zero) in
     let none = (or_parts (list_fails list task) (reads_fail (reasons_of ends.is.entries) ends.is.reads) (sym ends.is.fails_is ∙ fails)).0 in
     let own : IsListRead told name beside.entries = record { bytes = bytes; header = beside.header; names = beside.names; before = []; after = later; told_is = told_is } in
-    revokes_all told name beside.entries task named list (ListRead name (Ok bytes) ∷ beside.others) (are.moments ++ files) beside.losts limits.lost.now other own none
+    revokes_all told name beside.entries task loaded.names list (ListRead name (Ok bytes) ∷ beside.others) (are.moments ++ files) beside.losts limits.lost.now other own none
     (ap (λ (l : Limits). l.lost.now) ends.is.limits_are) same beside.is_lost
     (λ fact one. told_is ∙ ap (λ (facts : List Reading). ListRead name (Ok bytes) ∷ facts) (told_parts name bytes later first files are.lists are.moments beside.others beside.losts fact later_is are.told_is beside.told_is one))
 
@@ -59,18 +60,18 @@ not_refused Is before after failed done ends zero =
     let status : ends.done.status ≡ 0 = ap (λ (d : Done). d.status) (sym same) ∙ zero in
     omega (arith, status, ends.status_is)
 
-revokes_beside : (told later : List Reading) (name bytes : List ℕ) (task : Check) (named : Option (Bor NamedKeys)) (before after : Option (List ℕ)) (failed : Bool) (done : Done) (other : Bor (List ℕ))
-    → told ≡ ListRead name (Ok bytes) ∷ later → EndsBeside later name bytes task named before after failed (Ok done) → done.status ≡ 0 → task.superset_of ≡ Some other → RevokesAll told name other.now
-revokes_beside told later name bytes task named before after failed done other told_is (beside limits first files later_is are end is ends) zero same =
+revokes_beside : (told later : List Reading) (name bytes : List ℕ) (task : Check) (loaded : Loaded) (before after : Option (List ℕ)) (failed : Bool) (done : Done) (other : Bor (List ℕ))
+    → told ≡ ListRead name (Ok bytes) ∷ later → EndsBeside later name bytes task loaded before after failed (Ok done) → done.status ≡ 0 → task.superset_of ≡ Some other → RevokesAll told name other.now
+revokes_beside told later name bytes task loaded before after failed done other told_is (beside limits first files later_is are end is ends) zero same =
     let both : done ≡ end = cc is in
-    revokes_checked told later first files name bytes task named limits before after failed end.status end.fault other told_is later_is are ends (ap (λ (d : Done). d.status) (sym both) ∙ zero) same
-revokes_beside told later name bytes task named before after failed done other told_is (other_refused ends) zero same = absurd (not_refused _ before after failed done ends zero)
-revokes_beside told later name bytes task named before after failed done other told_is (lost_unknown _ _ _ _ _ ends) zero same = absurd (not_refused _ before after failed done ends zero)
-revokes_beside told later name bytes task named before after failed done other told_is (clockless _ _ _ _ _ _ why _ is _ _) zero same = absurd (cc is)
+    revokes_checked told later first files name bytes task loaded limits before after failed end.status end.fault other told_is later_is are ends (ap (λ (d : Done). d.status) (sym both) ∙ zero) same
+revokes_beside told later name bytes task loaded before after failed done other told_is (other_refused ends) zero same = absurd (not_refused _ before after failed done ends zero)
+revokes_beside told later name bytes task loaded before after failed done other told_is (lost_unknown _ _ _ _ _ ends) zero same = absurd (not_refused _ before after failed done ends zero)
+revokes_beside told later name bytes task loaded before after failed done other told_is (clockless _ _ _ _ _ _ why _ is _ _) zero same = absurd (cc is)
 
-pub passed_run : (told : List Reading) (task : Check) (named : Option (Bor NamedKeys)) (before after : Option (List ℕ)) (failed : Bool) (done : Done) (other : Bor (List ℕ))
-    → EndsCheckRun told task named before after failed (Ok done) → done.status ≡ 0 → task.print_version ≡ false → task.superset_of ≡ Some other → RevokesAll told task.list.now other.now
-passed_run told task named before after failed done other (read bytes later told_is header entries names ends) zero checks same =
-    revokes_beside told later task.list.now bytes task named before after failed done other told_is
-    (subst (λ (only : Bool). EndsIf only later task.list.now bytes header task named before after failed (Ok done)) checks ends) zero same
-passed_run told task named before after failed done other (refused ends) zero checks same = absurd (not_refused _ before after failed done ends zero)
+pub passed_run : (told : List Reading) (task : Check) (loaded : Loaded) (before after : Option (List ℕ)) (failed : Bool) (done : Done) (other : Bor (List ℕ))
+    → EndsCheckRun told task loaded before after failed (Ok done) → done.status ≡ 0 → task.print_version ≡ false → task.superset_of ≡ Some other → RevokesAll told task.list.now other.now
+passed_run told task loaded before after failed done other (read bytes later told_is header entries names ends) zero checks same =
+    revokes_beside told later task.list.now bytes task loaded before after failed done other told_is
+    (subst (λ (only : Bool). EndsIf only later task.list.now bytes header task loaded before after failed (Ok done)) checks ends) zero same
+passed_run told task loaded before after failed done other (refused ends) zero checks same = absurd (not_refused _ before after failed done ends zero)

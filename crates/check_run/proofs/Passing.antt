@@ -16,7 +16,7 @@ use Rattle.list_conditions.specs.Check.{names_nobody}
 use Rattle.list_conditions.proofs.Nobody.{law}
 use Rattle.list_conditions.specs.Condition.{fails}
 use Rattle.list_conditions.specs.declared.condition.Condition.TheVariants.{Slow}
-use Rattle.check_run.specs.Lists.{ages_fail, empty_fails, limits_fail, most_cas, version_of, versions_fail}
+use Rattle.check_run.specs.Lists.{ages_fail, empty_fails, limits_fail, most_cas, sshds_fail, version_of, versions_fail}
 use Rattle.check_run.specs.Losses.{AreLost, losses_fail}
 use Rattle.check_run.specs.Run.{Judged, list_fails}
 use Rattle.check_run.specs.declared.lists.Lost.{Lost}
@@ -43,8 +43,9 @@ nothing_fails list task none =
     let beside = or_parts (fails list.format) (empty_fails list.nobody task.allow_empty || (slow || own)) none in
     let named = or_parts (empty_fails list.nobody task.allow_empty) (slow || own) beside.1 in
     let counted = or_parts slow own named.1 in
-    let later = or_parts (versions_fail (version_of list.stated) limits.other) (ages_fail list.stated limits.age || losses_fail limits.lost.now) counted.1 in
-    (or_parts (ages_fail list.stated limits.age) (losses_fail limits.lost.now) later.1).1
+    let later = or_parts (versions_fail (version_of list.stated) limits.other) (ages_fail list.stated limits.age || (losses_fail limits.lost.now || sshds_fail limits.sshd)) counted.1 in
+    let aged = or_parts (ages_fail list.stated limits.age) (losses_fail limits.lost.now || sshds_fail limits.sshd) later.1 in
+    (or_parts (losses_fail limits.lost.now) (sshds_fail limits.sshd) aged.1).0
 
 pub passed : (own others : List Entry) (list : Judged) (task : Check) (lost : Lost) → list.limits.lost.now ≡ Some lost → AreLost own others lost.held → list_fails list task ≡ false
     → (subject : Subject) → Revoked others subject → Revoked own subject

@@ -1,4 +1,5 @@
--- The limits of a list: the version of another one, an age, and the names of another one.
+-- The limits of a list: the version of another one, an age, the names of another one, and the list
+-- that an sshd uses.
 use Rattle.std.specs.Borrow.{Bor}
 use Rattle.std.specs.Prelude.{◌≡◌, ℕ, true, List, [], ◌∷◌, ◌++◌, codes, Option, Some, None, Ok}
 use Rattle.std.specs.Prelude.{is_some}
@@ -16,6 +17,7 @@ use Rattle.check_run.specs.Lists.{IsOtherOf}
 use Rattle.check_run.specs.Losses.{AreLost}
 use Rattle.check_run.specs.declared.limits.AgeLimit.{AgeLimit}
 use Rattle.check_run.specs.declared.limits.Limits.{Limits}
+use Rattle.check_run.specs.declared.limits.Loaded.{Loaded}
 use Rattle.check_run.specs.declared.lists.Lost.{Lost}
 use Rattle.check_run.specs.declared.lists.Other.{Other}
 use Rattle.check_run.specs.declared.limits.Unanswered.{Unanswered}
@@ -81,11 +83,13 @@ pub record AreOthers (told : List Reading) (bytes : List ℕ) (task : Check)
   pub names : Names bytes header entries
   pub is_lost : IsLostOf losts entries task.superset_of named lost
 
--- The limits that a task sets to the list with these bytes: the clock was read after the lists.
-pub record AreLimits (told : List Reading) (bytes : List ℕ) (task : Check)
-    (named : Option (Bor NamedKeys)) (limits : Limits) : Type 0 where
+-- The limits that a task sets to the list with these bytes, with the sshd that must use it: the
+-- clock was read after the lists.
+pub record AreLimits (told : List Reading) (bytes : List ℕ) (task : Check) (loaded : Loaded)
+    (limits : Limits) : Type 0 where
   pub lists : List Reading
   pub moments : List Reading
   pub told_is : told ≡ lists ++ moments
-  pub others : AreOthers lists bytes task named limits.other limits.lost.now
+  pub others : AreOthers lists bytes task loaded.names limits.other limits.lost.now
   pub age : IsAgeLimit moments task.max_age limits.age
+  pub sshd_is : limits.sshd ≡ loaded.sshd

@@ -19,7 +19,8 @@ use Rattle.list_conditions.specs.Condition.{fails, is_fresh}
 use Rattle.list_conditions.specs.declared.condition.Condition.{Condition}
 use Rattle.list_conditions.specs.declared.condition.Condition.TheVariants.{Age, Empty, NoDate}
 use Rattle.list_conditions.specs.declared.condition.Condition.TheVariants.{NoVersion, OpenSsh, Slow}
-use Rattle.list_conditions.specs.declared.condition.Condition.TheVariants.{OpenSshLines, Version}
+use Rattle.list_conditions.specs.declared.condition.Condition.TheVariants.{OpenSshLines, Sshd}
+use Rattle.list_conditions.specs.declared.condition.Condition.TheVariants.{Version}
 use Rattle.plain_list.specs.Any.{Names, begins_list}
 use Rattle.plain_list.specs.Dsa.{IsFirstDsa}
 use Rattle.plain_list.specs.List.{lines_of}
@@ -29,6 +30,7 @@ use Rattle.any_list.specs.Told.{ListRead, Reading}
 use Rattle.check_run.specs.Losses.{losses_fail, losses_items}
 use Rattle.check_run.specs.declared.limits.AgeLimit.{AgeLimit}
 use Rattle.check_run.specs.declared.limits.Limits.{Limits}
+use Rattle.check_run.specs.declared.limits.Used.{Used}
 use Rattle.check_run.specs.declared.lists.Other.{Other}
 
 abbrev pub version_of : Option Stated → Option ℕ
@@ -160,14 +162,26 @@ abbrev pub ages_fail : Option Stated → Option AgeLimit → Bool
 ages_fail stated None = false
 ages_fail stated (Some limit) = limit_fails stated limit
 
+-- ---- the sshd that must use it
+
+abbrev pub sshds_items : Format → List ℕ → Option Used → List Item
+sshds_items form name None = []
+sshds_items form name (Some used) = condition_items form name (Sshd used.output used.found)
+
+abbrev pub sshds_fail : Option Used → Bool
+sshds_fail None = false
+sshds_fail (Some used) = fails (Sshd used.output used.found)
+
 -- ---- all that is limited
 
 abbrev pub limits_items : Format → List ℕ → Option Stated → Limits → List Item
 limits_items form name stated limits =
     versions_items form name (version_of stated) limits.other
-    ++ (ages_items form name stated limits.age ++ losses_items form name limits.lost.now)
+    ++ (ages_items form name stated limits.age
+    ++ (losses_items form name limits.lost.now ++ sshds_items form name limits.sshd))
 
 abbrev pub limits_fail : Option Stated → Limits → Bool
 limits_fail stated limits =
     versions_fail (version_of stated) limits.other
-    || (ages_fail stated limits.age || losses_fail limits.lost.now)
+    || (ages_fail stated limits.age
+    || (losses_fail limits.lost.now || sshds_fail limits.sshd))

@@ -1,5 +1,4 @@
 -- A whole check: what it prints, and how it ends.
-use Rattle.std.specs.Borrow.{Bor}
 use Rattle.std.specs.Prelude.{◌≡◌, ◌↔◌, ℕ, ◌||◌, Bool, true, false, List, [], ◌∷◌, ◌++◌, Option}
 use Rattle.std.specs.Prelude.{Some, None, Result, Ok, Err, OnOk, if◌then◌else◌, length}
 use Rattle.run_faults.specs.RunFault.{RunFault}
@@ -24,7 +23,6 @@ use Rattle.list_conditions.specs.declared.condition.Condition.TheVariants.{Slow}
 use Rattle.plain_list.specs.Any.{Names}
 use Rattle.any_list.specs.List.{IsRefused, stated_by}
 use Rattle.any_list.specs.Told.{ListRead, Reading}
-use Rattle.text_entries.specs.AuthorityNames.{NamedKeys}
 use Rattle.check_run.specs.Files.{AreRead, Named, Read, files_of, reads_fail, reads_items}
 use Rattle.check_run.specs.Files.{some_unread}
 use Rattle.check_run.specs.Limits.{AreLimits, AreOthers, IsClockless, IsLostUnknown}
@@ -33,6 +31,7 @@ use Rattle.check_run.specs.Lists.{empty_fails, empty_items, format_items, limits
 use Rattle.check_run.specs.Lists.{limits_items, most_cas}
 use Rattle.check_run.specs.Version.{PrintsVersion}
 use Rattle.check_run.specs.declared.limits.Limits.{Limits}
+use Rattle.check_run.specs.declared.limits.Loaded.{Loaded}
 use Rattle.check_run.specs.declared.lists.Lost.{Lost}
 use Rattle.check_run.specs.declared.lists.Other.{Other}
 use Rattle.check_run.specs.declared.limits.Unanswered.{Unanswered}
@@ -121,48 +120,48 @@ pub record EndsRefused (Is : RunFault → Type 0) (before after : Option (List �
 -- is, after the first one was read; or the clock cannot be read, after both were; and nothing was
 -- printed.
 pub data EndsBeside (told : List Reading) (name bytes : List ℕ) (task : Check)
-    (named : Option (Bor NamedKeys)) (before after : Option (List ℕ)) (failed : Bool)
+    (loaded : Loaded) (before after : Option (List ℕ)) (failed : Bool)
     (result : Result Done Unanswered) : Type 0
   where
     beside : (limits : Limits) → (first files : List Reading) → told ≡ first ++ files
-        → AreLimits first bytes task named limits → (done : Done) → result ≡ Ok done
+        → AreLimits first bytes task loaded limits → (done : Done) → result ≡ Ok done
         → EndsChecked files name bytes task limits before after failed done.status done.fault
-        → EndsBeside told name bytes task named before after failed result
+        → EndsBeside told name bytes task loaded before after failed result
     other_refused :
         EndsRefused (IsOtherRefused told task.newer_than) before after failed result
-        → EndsBeside told name bytes task named before after failed result
+        → EndsBeside told name bytes task loaded before after failed result
     lost_unknown : (other : Option Other) → (first last : List Reading) → told ≡ first ++ last
         → IsOtherOf first task.newer_than other
         → EndsRefused (IsLostUnknown last task.superset_of) before after failed result
-        → EndsBeside told name bytes task named before after failed result
+        → EndsBeside told name bytes task loaded before after failed result
     clockless : (other : Option Other) → (lost : Option Lost) → (first last : List Reading)
-        → told ≡ first ++ last → AreOthers first bytes task named other lost
+        → told ≡ first ++ last → AreOthers first bytes task loaded.names other lost
         → (why : Unanswered) → IsClockless last task.max_age why
         → result ≡ Err why → after ≡ before → failed ≡ false
-        → EndsBeside told name bytes task named before after failed result
+        → EndsBeside told name bytes task loaded before after failed result
 
 -- The version of a list that was read is printed, and nothing else is read; or the list is checked.
 abbrev pub EndsIf : (only_version : Bool) → List Reading → (name bytes : List ℕ) → Option Header
-    → Check → Option (Bor NamedKeys) → (before after : Option (List ℕ)) → (failed : Bool)
+    → Check → Loaded → (before after : Option (List ℕ)) → (failed : Bool)
     → Result Done Unanswered → Type 0
-EndsIf true told name bytes header task named before after failed result =
+EndsIf true told name bytes header task loaded before after failed result =
     (told ≡ []) × PrintsVersion name (stated_by header) before after failed result
-EndsIf false told name bytes header task named before after failed result =
-    EndsBeside told name bytes task named before after failed result
+EndsIf false told name bytes header task loaded before after failed result =
+    EndsBeside told name bytes task loaded before after failed result
 
--- The list of the task was read first, and the task was done with it, by these names of
--- authorities; or the list is refused, and nothing else was read.
-pub data EndsCheckRun (told : List Reading) (task : Check) (named : Option (Bor NamedKeys))
+-- The list of the task was read first, and the task was done with it, by these names of authorities
+-- and this use of lists by an sshd; or the list is refused, and nothing else was read.
+pub data EndsCheckRun (told : List Reading) (task : Check) (loaded : Loaded)
     (before after : Option (List ℕ)) (failed : Bool) (result : Result Done Unanswered)
     : Type 0 where
   read : (bytes : List ℕ) → (later : List Reading)
       → told ≡ ListRead task.list.now (Ok bytes) ∷ later
       → (header : Option Header) → (entries : List Entry) → Names bytes header entries
-      → EndsIf task.print_version later task.list.now bytes header task named before after failed
+      → EndsIf task.print_version later task.list.now bytes header task loaded before after failed
       result
-      → EndsCheckRun told task named before after failed result
+      → EndsCheckRun told task loaded before after failed result
   refused : EndsRefused (IsRefused told task.list.now) before after failed result
-      → EndsCheckRun told task named before after failed result
+      → EndsCheckRun told task loaded before after failed result
 
 -- ---- the parts of a run
 

@@ -8,7 +8,7 @@ ghost use Rattle.check_run.specs.Run.{ChecksAll, ChecksList, EndsChecked, form_o
 use crate::conditions::{check_empty, check_format, check_limits, check_slow};
 use crate::files::check_files;
 use crate::host::Host;
-use crate::limits::Limits;
+use crate::limits::{Limits, Loaded};
 use any_list::Given;
 use audit_text::Format;
 use byte_streams::Sink;
@@ -19,14 +19,13 @@ use list_conditions::laws::{authorities_are_counted, nobody_is_named};
 use run_faults::RunFault;
 use run_output::{Done, Printer, Run};
 use std::alloc::Global;
-use text_entries::NamesByKey;
 
-/// A list that was read, the task, and the names of authorities, if some are given.
+/// A list that was read, the task, and what was read before the list.
 #[derive(Clone, Copy)]
 pub(crate) struct Job<'a, 'g> {
     pub(crate) given: &'g Given<'a>,
     pub(crate) task: &'g Check<'a>,
-    pub(crate) names: Option<&'g NamesByKey>,
+    pub(crate) loaded: Loaded<'a, 'g>,
 }
 
 /// Checks a list that was read, by its limits.

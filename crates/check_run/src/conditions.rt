@@ -5,12 +5,13 @@ ghost use Rattle.list_conditions.specs.Check.{condition_items, names_nobody};
 ghost use Rattle.list_conditions.specs.Condition.{fails};
 ghost use Rattle.check_run.specs.Lists.{ChecksFormat, ChecksLines, ages_fail, ages_items};
 ghost use Rattle.check_run.specs.Lists.{empty_fails, empty_items, limits_fail, limits_items};
-ghost use Rattle.check_run.specs.Lists.{slow_of, version_of, versions_fail, versions_items};
+ghost use Rattle.check_run.specs.Lists.{slow_of, sshds_fail, sshds_items, version_of};
+ghost use Rattle.check_run.specs.Lists.{versions_fail, versions_items};
 ghost use Rattle.check_run.specs.Losses.{lost_form, lost_items, losses_fail, losses_items};
 ghost use Rattle.any_list.specs.List.{IsRead};
 ghost use Rattle.check_run.specs.Run.{ChecksBy};
 
-use crate::limits::{AgeLimit, Limits};
+use crate::limits::{AgeLimit, Limits, Used};
 use crate::lists::{Lost, Other, version_of};
 use any_list::Given;
 use audit_text::Format;
@@ -102,7 +103,7 @@ pub(crate) fn check_slow<'a, W: Sink>(
     checker.check(name, Condition::Slow(authorities, most))
 }
 
-/// Checks the version, the age and the names of a list by its limits.
+/// Checks the version, the age, the names and the sshd of a list by its limits.
 pub(crate) fn check_limits<'a, W: Sink>(
     checker: &mut Checker<'_, '_, W>,
     name: &'a str,
@@ -114,7 +115,8 @@ pub(crate) fn check_limits<'a, W: Sink>(
 {
     check_version(checker, name, version_of(stated), limits.other)?;
     check_age(checker, name, stated, limits.age)?;
-    check_lost(checker, name, limits.lost)
+    check_lost(checker, name, limits.lost)?;
+    check_sshd(checker, name, limits.sshd)
 }
 
 // Checks that the version of a list is not below that of the other one, if there is one.
@@ -172,6 +174,21 @@ fn check_lost<'a, W: Sink>(
         return checker.check(name, Condition::NothingLost(lost.name));
     }
     say_lost(checker, name, lost)
+}
+
+// Checks that an sshd uses the list, if there is one that must.
+fn check_sshd<'a, W: Sink>(
+    checker: &mut Checker<'_, '_, W>,
+    name: &'a str,
+    sshd: Option<Used<'a>>,
+) -> Result<(), RunFault<'a>>
+    ensures { ChecksBy (λ form. sshds_items form name.now sshd.entry) (sshds_fail sshd.entry)
+        result checker.old checker.new }
+{
+    let Some(used) = sshd else {
+        return Ok(());
+    };
+    checker.check(name, Condition::Sshd(used.output, used.found))
 }
 
 // Prints what a list lacks, and refuses it.

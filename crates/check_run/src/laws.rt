@@ -9,11 +9,11 @@ ghost use Rattle.krl_types.specs.Subject.{Subject};
 ghost use Rattle.krl_entries.specs.Revocations.{Revocations};
 ghost use Rattle.krl_entries.specs.Revoked.{Revoked};
 ghost use Rattle.list_conditions.specs.Check.{names_nobody};
-ghost use Rattle.text_entries.specs.AuthorityNames.{NamedKeys};
 ghost use Rattle.any_list.specs.Told.{Reading};
 ghost use Rattle.check_run.specs.Losses.{AreLost};
 ghost use Rattle.check_run.specs.Run.{EndsCheckRun, Judged, list_fails};
 ghost use Rattle.check_run.specs.Superset.{RevokesAll};
+ghost use Rattle.check_run.specs.declared.limits.Loaded.{Loaded as LoadedOf};
 ghost use Rattle.check_run.specs.declared.lists.Lost.{Lost as LostOf};
 
 /// A list that lacks no name of another one revokes all that the other one revokes. A list for
@@ -29,9 +29,9 @@ pub fn passed_revokes_all()
         → list.limits.lost.now ≡ Some lost → AreLost own others lost.held
         → list_fails list task ≡ false
         → (subject : Subject) → Revoked others subject → Revoked own subject }
-    ensures run { (told : List Reading) (task : CheckOf) (named : Option (Bor NamedKeys))
+    ensures run { (told : List Reading) (task : CheckOf) (loaded : LoadedOf)
         (before after : Option (List ℕ)) (failed : Bool) (done : DoneOf) (other : Bor (List ℕ))
-        → EndsCheckRun told task named before after failed (Ok done) → done.status ≡ 0
+        → EndsCheckRun told task loaded before after failed (Ok done) → done.status ≡ 0
         → task.print_version ≡ false → task.superset_of ≡ Some other
         → RevokesAll told task.list.now other.now }
 {}

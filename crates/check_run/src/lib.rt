@@ -12,5 +12,5 @@ mod run;
 mod version;
 
 pub use host::Host;
-pub use limits::Unanswered;
+pub use limits::{Loaded, Unanswered, Used};
 pub use run::check_run;

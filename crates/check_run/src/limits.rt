@@ -1,4 +1,5 @@
-//! The limits of a list: the version of another one, an age, and the names of another one.
+//! The limits of a list: the version of another one, an age, the names of another one, and the list
+//! that an sshd uses.
 
 ghost use Rattle.std.specs.Prelude.{◌≡◌, IfErr, IfOk};
 ghost use Rattle.any_list.specs.Told.{Tells};
@@ -6,6 +7,27 @@ ghost use Rattle.check_run.specs.Limits.{IsAgeLimit, IsClockless, unanswered_wor
 
 use crate::host::Host;
 use crate::lists::{Lost, Other};
+use list_conditions::SshdUse;
+use text_entries::NamesByKey;
+
+/// What was read before the list: the names of authorities, and the output of an sshd, each if it
+/// is given.
+#[derive(Clone, Copy)]
+pub struct Loaded<'a, 'n> {
+    /// The names of authorities, by which entries are printed.
+    pub names: Option<&'n NamesByKey>,
+    /// The sshd whose list it must be.
+    pub sshd: Option<Used<'a>>,
+}
+
+/// The list of an sshd, as to the one that is checked.
+#[derive(Clone, Copy)]
+pub struct Used<'a> {
+    /// The name of the output of `sshd -T`.
+    pub output: &'a str,
+    /// Which list the sshd uses.
+    pub found: SshdUse,
+}
 
 /// The largest age of a list.
 #[derive(Clone, Copy)]
@@ -16,13 +38,14 @@ pub(crate) struct AgeLimit {
     pub(crate) max_age: u64,
 }
 
-/// The list whose version must not be higher, the largest age, and what the list lacks of another
-/// one, each if there is such a limit.
+/// The list whose version must not be higher, the largest age, what the list lacks of another one,
+/// and the sshd that must use it, each if there is such a limit.
 #[derive(Clone, Copy)]
 pub(crate) struct Limits<'a, 'l, 'n> {
     pub(crate) other: Option<Other<'a>>,
     pub(crate) age: Option<AgeLimit>,
     pub(crate) lost: &'l Option<Lost<'a, 'n>>,
+    pub(crate) sshd: Option<Used<'a>>,
 }
 
 /// Why nothing is said about a list that was read.

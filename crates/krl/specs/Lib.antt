@@ -5,6 +5,7 @@ pub mod Disk
 pub mod Audit
 pub mod Names
 pub mod Texts
+pub mod Sshd
 pub mod Runs
 pub mod Make
 pub mod Program

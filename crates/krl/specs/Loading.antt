@@ -5,7 +5,8 @@ use Rattle.run_faults.specs.Named.{file_limit}
 use Rattle.audit_lines.specs.declared.why.Refusal.{Refusal}
 use Rattle.audit_lines.specs.declared.why.Refusal.TheVariants.{Missing, Denied, Irregular, Loop}
 use Rattle.audit_lines.specs.declared.why.Refusal.TheVariants.{DirectoryLink, NoFile, LongName}
-use Rattle.audit_lines.specs.declared.why.Refusal.TheVariants.{Slow, Kernel, Open, Read, TooLong}
+use Rattle.audit_lines.specs.declared.why.Refusal.TheVariants.{NotAsked, Slow, Kernel, Open, Read}
+use Rattle.audit_lines.specs.declared.why.Refusal.TheVariants.{TooLong, Wildcards}
 
 -- This many bytes came from a reader that has these bytes left and failed or not: all that it had,
 -- or too many, or those before it failed.
@@ -23,3 +24,5 @@ IsRead left failed size (Err LongName) = ⊥
 IsRead left failed size (Err Slow) = ⊥
 IsRead left failed size (Err Kernel) = ⊥
 IsRead left failed size (Err Open) = ⊥
+IsRead left failed size (Err NotAsked) = ⊥
+IsRead left failed size (Err Wildcards) = ⊥

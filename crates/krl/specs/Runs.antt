@@ -5,8 +5,10 @@ use Rattle.std.specs.Prelude.{◌≡◌, ℕ, Bool, true, false, List, Option, o
 use Rattle.std.specs.Prelude.{Err}
 use Rattle.any_list.specs.Told.{Reading}
 use Rattle.check_run.specs.Run.{EndsCheckRun}
+use Rattle.check_run.specs.declared.limits.Loaded.{Loaded}
 use Rattle.check_run.specs.declared.limits.Unanswered.{Unanswered}
 use Rattle.krl.specs.Names.{AreNamesOf}
+use Rattle.krl.specs.Sshd.{IsUseBy}
 use Rattle.krl_arguments.specs.declared.task.Check.{Check}
 use Rattle.krl_arguments.specs.declared.task.Diff.{Diff}
 use Rattle.krl_arguments.specs.declared.task.Show.{Show}
@@ -62,12 +64,13 @@ abbrev pub checked_status : Result Done Unanswered → ℕ
 checked_status (Ok done) = done.status
 checked_status (Err why) = 255
 
--- The list of the task was checked so, with this status, by the names that its texts give; or a
--- text is refused.
+-- The list of the task was checked so, with this status, by the names that its texts give, and by
+-- the list that the sshd of its output of sshd -T uses; or a text is refused.
 pub data IsChecked (task : Check) (status : ℕ) : Type 0 where
-  unnamed : status ≡ 255 → IsChecked task status
-  checked : (names : Option (Bor NamedKeys)) → AreNamesOf task.names.items (names_now names)
+  unread : status ≡ 255 → IsChecked task status
+  checked : (loaded : Loaded) → AreNamesOf task.names.items (names_now loaded.names)
+      → IsUseBy task.list.now task.sshd loaded.sshd
       → (told : List Reading) → (before after : Option (List ℕ)) → (failed : Bool)
       → (result : Result Done Unanswered)
-      → EndsCheckRun told task names before after failed result → status ≡ checked_status result
-      → IsChecked task status
+      → EndsCheckRun told task loaded before after failed result
+      → status ≡ checked_status result → IsChecked task status

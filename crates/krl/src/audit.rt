@@ -3,7 +3,7 @@
 ghost use Rattle.std.specs.Prelude.{◌≡◌, false, IfErr, IfOk, IfSome};
 ghost use Rattle.audit_run.specs.Reading.{SomeFailed};
 ghost use Rattle.audit_run.specs.Run.{readers_of};
-ghost use Rattle.krl.specs.Audit.{EndsAudit, IsAudited, IsAuditedBy};
+ghost use Rattle.krl.specs.Audit.{EndsAudit, IsAudited, IsAuditedBy, IsAuditedWith};
 ghost use Rattle.krl.specs.Texts.{IsListBy};
 ghost use Rattle.krl_audit.specs.Audit.{IsUsable};
 
@@ -13,8 +13,9 @@ use crate::disk::Disk;
 use crate::ending::{end_audit, fail_in_words, fail_to_make};
 use crate::loading::{bytes_of, texts_of};
 use crate::screen::{Screen, terminal};
+use crate::sshd::{sought_by, sshd_texts};
 use crate::texts::{date_of, index_of, list_of};
-use audit_run::{Order, Sources, audit_run};
+use audit_run::{Loaded, Order, Sources, audit_run};
 use byte_streams::{FromRead, Source};
 use krl_arguments::Audit;
 use krl_entries::Revocations;
@@ -23,9 +24,9 @@ use program_edge::stop;
 use run_faults::{Cause, FileFault, RunFault};
 use span_sets::Held;
 use ssh_wire::Bytes;
+use sshd_files::SshdFile;
 use std::fs::{self, File};
 use std::io::Stdin;
-use text_index::TextIndex;
 use text_run::Text;
 
 // Why no audit is made by a list that does not revoke a canary.
@@ -33,12 +34,11 @@ const UNMET: &[u8] =
     b"it must have a key and no line that is unread, and the list must revoke each \
 of its keys [audit 1 Canary]";
 
-// The bytes of the list of an audit, the keys of its canaries, and its texts.
+// The bytes of the list of an audit, and what was read beside it.
 #[derive(Drop)]
 struct Asked<'a> {
     list: Bytes,
-    canaries: Option<&'a Revocations<Held>>,
-    texts: Option<&'a TextIndex<'a>>,
+    loaded: Loaded<'a>,
 }
 
 /// Audits what the task names. Answers the exit status. An audit that has canaries is not begun by
@@ -46,6 +46,35 @@ struct Asked<'a> {
 pub fn audit(rt: &HostRuntime, task: &Audit) -> u8
     ensures { IsAudited (SomeFailed ⟦<FromRead<File> as Source>⟧.has_failed)
         (SomeFailed ⟦<FromRead<Stdin> as Source>⟧.has_failed) task.now result }
+{
+    let outputs = match sshd_texts(rt, task) {
+        Ok(outputs) => outputs,
+        Err(status) => return status,
+    };
+    let sought = match sought_by(rt, task, &outputs) {
+        Ok(sought) => sought,
+        Err(status) => return status,
+    };
+    let files = sought.files.as_slice();
+    match (task.list, sought.list) {
+        (Some(list), _) => audit_by_list(rt, task, Some(list), list, files),
+        (None, Some(list)) => audit_by_list(rt, task, Some(list), list, files),
+        (None, None) => audit_by_list(rt, task, None, task.list_name(), files),
+    }
+}
+
+// Audits what the task names by this list, or by the one that its texts make under this name, and
+// first these files that sshds read.
+fn audit_by_list<'a>(
+    rt: &HostRuntime,
+    task: &'a Audit<'a>,
+    given: Option<&'a str>,
+    name: &'a str,
+    files: &'a [SshdFile],
+) -> u8
+    ensures { IsAuditedWith (SomeFailed ⟦<FromRead<File> as Source>⟧.has_failed)
+        (SomeFailed ⟦<FromRead<Stdin> as Source>⟧.has_failed) task.now given.entry name.now
+        files.now result }
 {
     let texts = match texts_of(rt, task.texts.as_slice()) {
         Ok(texts) => texts,
@@ -59,11 +88,17 @@ pub fn audit(rt: &HostRuntime, task: &Audit) -> u8
         Ok(index) => index,
         Err(status) => return status,
     };
-    let list = match asked_list(rt, task.list, task.list_name(), date, texts.as_slice()) {
+    let list = match asked_list(rt, given, name, date, texts.as_slice()) {
         Ok(list) => list,
         Err(status) => return status,
     };
-    audit_list(rt, task, list, index.as_ref())
+    let loaded = Loaded {
+        list: name,
+        canaries: None,
+        texts: index.as_ref(),
+        sought: files,
+    };
+    audit_list(rt, task, list, loaded)
 }
 
 /// The bytes of the given list, or of the one that the texts make; otherwise the exit status.
@@ -86,21 +121,23 @@ pub fn asked_list<'a>(
     }
 }
 
-// Audits what the task names by a list with these bytes and by these texts.
-fn audit_list(rt: &HostRuntime, task: &Audit, list: Bytes, texts: Option<&TextIndex<'_>>) -> u8
-    requires texts { IsUsable texts }
+// Audits what the task names by a list with these bytes, and by what was read beside it.
+fn audit_list(rt: &HostRuntime, task: &Audit, list: Bytes, loaded: Loaded<'_>) -> u8
+    requires texts { IsUsable loaded.texts }
     ensures { IsAuditedBy (SomeFailed ⟦<FromRead<File> as Source>⟧.has_failed)
-        (SomeFailed ⟦<FromRead<Stdin> as Source>⟧.has_failed) task.now list texts.entry result }
+        (SomeFailed ⟦<FromRead<Stdin> as Source>⟧.has_failed) task.now list loaded.entry result }
 {
-    let canaries = match asked_canaries(rt, task, list.as_slice()) {
+    let canaries = match asked_canaries(rt, task, loaded.list, list.as_slice()) {
         Ok(canaries) => canaries,
         Err(status) => return status,
     };
-    let asked = Asked {
-        list,
+    let loaded = Loaded {
+        list: loaded.list,
         canaries: canaries.as_ref(),
-        texts,
+        texts: loaded.texts,
+        sought: loaded.sought,
     };
+    let asked = Asked { list, loaded };
     let input = FromRead::new(rt.stdin());
     match task.names_from {
         None => audit_by(rt, task, asked, None::<FromRead<File>>, input),
@@ -115,23 +152,24 @@ fn audit_list(rt: &HostRuntime, task: &Audit, list: Bytes, texts: Option<&TextIn
     }
 }
 
-// The keys of the canaries of the task, if the list revokes each of them; otherwise the exit
-// status.
+// The keys of the canaries of the task, if the list of this name revokes each of them; otherwise
+// the exit status.
 fn asked_canaries(
     rt: &HostRuntime,
     task: &Audit,
+    name: &str,
     list: &[u8],
 ) -> Result<Option<Revocations<Held>>, u8>
     ensures { IfErr result (λ status. status ≡ 255) }
 {
-    match canaries_of(rt, task.list_name(), list, task.canary.as_slice()) {
+    match canaries_of(rt, name, list, task.canary.as_slice()) {
         Ok(canaries) => Ok(canaries),
         Err(Unmet::At(name)) => Err(fail_in_words(rt, name, UNMET)),
         Err(Unmet::Stopped(fault)) => Err(stop(rt, &Krl, &fault)),
     }
 }
 
-// Audits what the task names by a list, first what a reader names.
+// Audits what the task names by a list, first what sshds read, and then what a reader names.
 fn audit_by<'a, N: Source + Drop, I: Source + Drop>(
     rt: &HostRuntime,
     task: &'a Audit<'a>,
@@ -139,22 +177,18 @@ fn audit_by<'a, N: Source + Drop, I: Source + Drop>(
     names: Option<N>,
     input: I,
 ) -> u8
-    requires texts { IsUsable asked.texts }
+    requires texts { IsUsable asked.loaded.texts }
     requires names { IfSome names (λ names. N.has_failed names ≡ false) }
     requires input { I.has_failed input ≡ false }
-    ensures { EndsAudit task.now asked.entry.list asked.entry.texts
+    ensures { EndsAudit task.now asked.entry.list asked.entry.loaded
         (readers_of N.left N.has_failed names I.left I.has_failed input) result }
 {
-    let Asked {
-        list,
-        canaries,
-        texts,
-    } = asked;
-    let order = Order::of(task, canaries, texts, terminal(rt));
+    let Asked { list, loaded } = asked;
+    let order = Order::of(task, loaded, terminal(rt));
     let tree = &Disk::new(rt, task.exclude.as_slice(), task.one_file_system);
     let given = Sources { tree, names, input };
     let mut screen = Screen::new(rt);
     let audited = audit_run(rt.alloc(), &order, list, given, &mut screen);
     screen.wipe();
-    end_audit(rt, task.list_name(), audited)
+    end_audit(rt, loaded.list, audited)
 }

@@ -6,9 +6,10 @@ use crate::Krl;
 use crate::ending::fail_in_words;
 use crate::loading::{INPUT, ListFiles, open, read};
 use crate::names::names_of;
+use crate::sshd::used_by;
 use audit_lines::Refusal;
 use byte_streams::{FromRead, ToWrite};
-use check_run::{Host, check_run};
+use check_run::{Host, Loaded, check_run};
 use krl_arguments::Check;
 use krl_system::present;
 use program_edge::end;
@@ -22,9 +23,17 @@ pub fn check(rt: &HostRuntime, task: &Check) -> u8
         Ok(names) => names,
         Err(status) => return status,
     };
+    let sshd = match used_by(rt, task.list, task.sshd) {
+        Ok(sshd) => sshd,
+        Err(status) => return status,
+    };
+    let loaded = Loaded {
+        names: names.as_ref(),
+        sshd,
+    };
     let mut files = ListFiles { rt };
     let mut out = ToWrite::new(rt.stdout());
-    match check_run(rt.alloc(), task, names.as_ref(), &mut files, &mut out) {
+    match check_run(rt.alloc(), task, loaded, &mut files, &mut out) {
         Ok(done) => end(rt, &Krl, &done),
         Err(why) => fail_in_words(rt, task.list, why.words()),
     }

@@ -30,11 +30,13 @@ const BATCH: usize = 8_192;
 /// Why a file cannot be opened.
 pub fn refusal_of(error: &io::Error) -> Refusal
     ensures missing { error_kind error.now ≡ ErrorKind.NotFound → result ≡ Refusal.Missing }
+    ensures no_directory { error_kind error.now ≡ ErrorKind.NotADirectory
+        → result ≡ Refusal.Missing }
     ensures denied { error_kind error.now ≡ ErrorKind.PermissionDenied → result ≡ Refusal.Denied }
     ensures loops { error_kind error.now ≡ ErrorKind.FilesystemLoop → result ≡ Refusal.Loop }
 {
     match error.kind() {
-        ErrorKind::NotFound => Refusal::Missing,
+        ErrorKind::NotFound | ErrorKind::NotADirectory => Refusal::Missing,
         ErrorKind::PermissionDenied => Refusal::Denied,
         ErrorKind::FilesystemLoop => Refusal::Loop,
         _ => Refusal::Open,

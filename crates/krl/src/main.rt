@@ -13,6 +13,7 @@ mod make;
 mod names;
 mod screen;
 mod show;
+mod sshd;
 mod texts;
 
 use crate::audit::audit;

@@ -10,8 +10,8 @@ use Rattle.option_table.specs.Value.{values_in}
 abbrev pub read_options : List (List ℕ)
 read_options =
     codes "list" ∷ codes "texts" ∷ codes "newer-than" ∷ codes "superset-of" ∷ codes "names"
-    ∷ codes "keep" ∷ codes "canary" ∷ codes "files0-from" ∷ codes "lists" ∷ codes "old"
-    ∷ codes "new" ∷ []
+    ∷ codes "keep" ∷ codes "canary" ∷ codes "files0-from" ∷ codes "sshd" ∷ codes "passwd"
+    ∷ codes "command-output" ∷ codes "lists" ∷ codes "old" ∷ codes "new" ∷ []
 
 abbrev pub is_input : List ℕ → Bool
 is_input name = bytes_eq name (codes "-")
@@ -22,7 +22,7 @@ inputs_in options rows =
     length (filter is_input (flat_map (λ option. values_in option rows) options))
 
 -- Standard input is named twice. The files of an audit may name it more than once.
-abbrev pub reads_twice : (name : List ℕ) → List Row → Bool
+unfoldable pub reads_twice : (name : List ℕ) → List Row → Bool
 reads_twice name rows =
     nat_lt 1 (inputs_in read_options rows)
     || ((nat_lt 0 (inputs_in read_options rows) && nat_lt 0 (inputs_in (codes "files" ∷ []) rows))

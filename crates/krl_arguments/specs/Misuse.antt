@@ -23,7 +23,8 @@ error_text why usage =
 abbrev pub audit_usage : List ℕ
 audit_usage =
     codes "audit [-f <krl>] [-t <text>] [-aqx] [--all] [--canary <file>] [--exclude <name>]"
-    ++ codes " [--json] [--files0-from <file>] [file|directory]..."
+    ++ (codes " [--json] [--files0-from <file>] [--sshd <file>] [--passwd <file>]"
+    ++ codes " [--command-output <file>] [file|directory]...")
 
 abbrev pub make_usage : List ℕ
 make_usage =
@@ -36,12 +37,14 @@ text_of_misuse misuses.TwoInputs =
     why_line (codes "standard input (-) can be read for one file only") ++ help_line
 text_of_misuse misuses.NoList = why_line (codes "-f or -t is needed") ++ help_line
 text_of_misuse misuses.NothingToAudit =
-    error_text (codes "a file, a directory or --files0-from is needed") audit_usage
+    error_text (codes "a file, a directory, --files0-from or --sshd is needed") audit_usage
 text_of_misuse misuses.NoLog = error_text
     (codes "a file is needed")
     (codes "logins [-f <krl>] [-t <text>] [-aq] [--json] [file]...")
 text_of_misuse misuses.ExcludesPath =
     error_text (codes "--exclude takes the name of a file or a directory, not a path") audit_usage
+text_of_misuse misuses.WithoutSshd =
+    error_text (codes "--passwd and --command-output go with --sshd") audit_usage
 text_of_misuse misuses.WrongAge = error_text
     (codes "--max-age takes a number and one of s, m, h and d, as in 24h")
     (codes "check --max-age <duration> <krl>")

@@ -7,7 +7,8 @@ use Rattle.option_table.specs.Argument.{long_rule, long_value_rule, long_values_
 use Rattle.option_table.specs.Argument.{rule_by, some_words_rule, with_rules, word_rule, words_rule}
 use Rattle.krl_arguments.specs.declared.options.Subcommand.{Subcommand}
 
--- krl audit: -f, -t, -a, -q, -x, --all, --canary, --exclude, --json, --files0-from, and the files
+-- krl audit: -f, -t, -a, -q, -x, --all, --canary, --exclude, --json, --files0-from, --sshd,
+-- --passwd, --command-output, and the files
 abbrev pub audit_rules : List Rule
 audit_rules =
     letter_value_rule (codes "list") 102
@@ -20,6 +21,9 @@ audit_rules =
     ∷ long_values_rule (codes "exclude")
     ∷ long_rule (codes "json")
     ∷ long_value_rule (codes "files0-from")
+    ∷ long_values_rule (codes "sshd")
+    ∷ long_value_rule (codes "passwd")
+    ∷ long_values_rule (codes "command-output")
     ∷ words_rule (codes "files") ∷ []
 
 -- krl logins: -f, -t, -a, -q, --json, and the logs
@@ -32,7 +36,7 @@ logins_rules =
     ∷ long_rule (codes "json")
     ∷ words_rule (codes "files") ∷ []
 
--- krl check: the list, --newer-than, --superset-of, --max-age, --max-cas, --keep, --canary,
+-- krl check: the list, --newer-than, --superset-of, --max-age, --max-cas, --sshd, --keep, --canary,
 -- --allow-empty, --json, --names and --print-version
 abbrev pub check_rules : List Rule
 check_rules =
@@ -41,6 +45,7 @@ check_rules =
     ∷ long_value_rule (codes "superset-of")
     ∷ long_value_rule (codes "max-age")
     ∷ long_value_rule (codes "max-cas")
+    ∷ long_value_rule (codes "sshd")
     ∷ long_values_rule (codes "keep")
     ∷ long_values_rule (codes "canary")
     ∷ long_rule (codes "allow-empty")

@@ -24,7 +24,8 @@ use Rattle.krl_arguments.specs.declared.task.Task.{Task as TaskOf}
 use Rattle.krl_arguments.specs.declared.task.Task.TheVariants as tasks
 
 -- an audit: the list, the texts, whether -a, --all, -q, --json and -x are given, the canaries, the
--- names that are excluded, the file of names, and the files
+-- names that are excluded, the file of names, the outputs of sshd -T, the file of users, the outputs
+-- of sshd's command, and the files
 pub record Audit : Type 0 where
   pub list : Option (List ℕ)
   pub texts : List (List ℕ)
@@ -36,6 +37,9 @@ pub record Audit : Type 0 where
   pub canary : List (List ℕ)
   pub exclude : List (List ℕ)
   pub names_from : Option (List ℕ)
+  pub sshd : List (List ℕ)
+  pub passwd : Option (List ℕ)
+  pub command_output : List (List ℕ)
   pub files : List (List ℕ)
 
 -- a search for logins: the list, the texts, whether -a, -q and --json are given, and the logs
@@ -55,6 +59,7 @@ pub record Check : Type 0 where
   pub superset_of : Option (List ℕ)
   pub max_age : Option ℕ
   pub max_cas : Option ℕ
+  pub sshd : Option (List ℕ)
   pub keep : List (List ℕ)
   pub canary : List (List ℕ)
   pub allow_empty : Bool
@@ -98,6 +103,9 @@ audit_with rows = record {
   canary = values_in (codes "canary") rows;
   exclude = values_in (codes "exclude") rows;
   names_from = first_of (codes "files0-from") rows;
+  sshd = values_in (codes "sshd") rows;
+  passwd = first_of (codes "passwd") rows;
+  command_output = values_in (codes "command-output") rows;
   files = values_in (codes "files") rows;
 }
 
@@ -110,22 +118,31 @@ is_no_name name =
     list_any (λ byte. nat_eq byte slash) name
     || (bytes_eq name [] || (bytes_eq name (codes ".") || bytes_eq name (codes "..")))
 
--- The audit, if a file, a directory or a file of names is given.
+-- The audit, if a file, a directory, a file of names or an output of sshd -T is given.
 abbrev pub if_any : Audit → Result Audit Misuse
 if_any audit =
-    if not (is_some audit.names_from) && is_empty audit.files then Err misuses.NothingToAudit
+    if not (is_some audit.names_from) && (is_empty audit.files && is_empty audit.sshd)
+    then Err misuses.NothingToAudit
     else Ok audit
+
+-- The same, unless users or outputs of a command are given, and no output of sshd -T.
+abbrev pub if_sshd : Audit → Result Audit Misuse
+if_sshd audit =
+    if is_empty audit.sshd && (is_some audit.passwd || not (is_empty audit.command_output))
+    then Err misuses.WithoutSshd
+    else if_any audit
 
 -- The same, unless something that is excluded is no name.
 abbrev pub if_names : Audit → Result Audit Misuse
 if_names audit =
     if nat_lt 0 (length (filter is_no_name audit.exclude)) then Err misuses.ExcludesPath
-    else if_any audit
+    else if_sshd audit
 
--- The same, if a list or a text is given.
+-- The same, if a list, a text or an output of sshd -T is given.
 abbrev pub if_list : Audit → Result Audit Misuse
 if_list audit =
-    if not (is_some audit.list) && is_empty audit.texts then Err misuses.NoList
+    if not (is_some audit.list) && (is_empty audit.texts && is_empty audit.sshd)
+    then Err misuses.NoList
     else if_names audit
 
 abbrev pub audit_of : List Row → Result Audit Misuse
@@ -177,6 +194,7 @@ check_with rows list = record {
   superset_of = first_of (codes "superset-of") rows;
   max_age = max_age_of rows;
   max_cas = count_at (codes "max-cas") rows;
+  sshd = first_of (codes "sshd") rows;
   keep = values_in (codes "keep") rows;
   canary = values_in (codes "canary") rows;
   allow_empty = is_set (codes "allow-empty") rows;
@@ -189,7 +207,8 @@ check_with rows list = record {
 abbrev pub reads_list_alone : Check → Bool
 reads_list_alone check =
     not (is_some check.newer_than) && (not (is_some check.superset_of)
-    && (is_empty check.keep && (is_empty check.canary && is_empty check.names)))
+    && (not (is_some check.sshd)
+    && (is_empty check.keep && (is_empty check.canary && is_empty check.names))))
 
 -- there is neither a condition nor a form for them
 abbrev pub has_only_version : Check → Bool
@@ -270,6 +289,9 @@ audit_by audit = record {
   canary = map (λ name. name.now) audit.canary.items;
   exclude = map (λ name. name.now) audit.exclude.items;
   names_from = option_map (λ text. text.now) audit.names_from;
+  sshd = map (λ name. name.now) audit.sshd.items;
+  passwd = option_map (λ text. text.now) audit.passwd;
+  command_output = map (λ name. name.now) audit.command_output.items;
   files = map (λ name. name.now) audit.files.items;
 }
 
@@ -290,6 +312,7 @@ check_by check = record {
   superset_of = option_map (λ text. text.now) check.superset_of;
   max_age = check.max_age;
   max_cas = check.max_cas;
+  sshd = option_map (λ text. text.now) check.sshd;
   keep = map (λ name. name.now) check.keep.items;
   canary = map (λ name. name.now) check.canary.items;
   allow_empty = check.allow_empty;

@@ -12,7 +12,7 @@ use option_table::values_of;
 use std::alloc::{AllocError, Global};
 
 // The options and words of every subcommand that name files to read.
-const READ_OPTIONS: [&str; 11] = [
+const READ_OPTIONS: [&str; 14] = [
     "list",
     "texts",
     "newer-than",
@@ -21,12 +21,16 @@ const READ_OPTIONS: [&str; 11] = [
     "keep",
     "canary",
     "files0-from",
+    "sshd",
+    "passwd",
+    "command-output",
     "lists",
     "old",
     "new",
 ];
 
 /// Returns true if standard input is named twice. The files of an audit may name it more than once.
+#[tactic(auto, unfolding(crate::specs::Inputs::reads_twice))]
 pub(crate) fn reads_twice(
     alloc: Global,
     name: &str,

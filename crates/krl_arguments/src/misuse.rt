@@ -10,14 +10,17 @@ pub enum Misuse {
     Incomplete,
     /// Standard input is named twice.
     TwoInputs,
-    /// `krl audit` or `krl logins` without a list and without a text.
+    /// `krl audit` or `krl logins` without a list, without a text and, for an audit, without
+    /// `--sshd`.
     NoList,
-    /// `krl audit` without a file, a directory or a file of names.
+    /// `krl audit` without a file, a directory, a file of names or `--sshd`.
     NothingToAudit,
     /// `krl logins` without a log.
     NoLog,
     /// A value of `--exclude` that no entry of a directory has as its name.
     ExcludesPath,
+    /// `--passwd` or `--command-output` without `--sshd`.
+    WithoutSshd,
     /// A value of `--max-age` that is no duration.
     WrongAge,
     /// A value of `--max-cas` that is no number.
@@ -44,6 +47,7 @@ impl Misuse {
             Misuse::NothingToAudit => NOTHING_TO_AUDIT,
             Misuse::NoLog => NO_LOG,
             Misuse::ExcludesPath => EXCLUDES_PATH,
+            Misuse::WithoutSshd => WITHOUT_SSHD,
             Misuse::WrongAge => WRONG_AGE,
             Misuse::WrongMost => WRONG_MOST,
             Misuse::VersionAlone => VERSION_ALONE,
@@ -69,10 +73,11 @@ const NO_LIST: &str = "error: -f or -t is needed
 For more information, try '--help'.
 ";
 
-const NOTHING_TO_AUDIT: &str = "error: a file, a directory or --files0-from is needed
+const NOTHING_TO_AUDIT: &str = "error: a file, a directory, --files0-from or --sshd is needed
 
 Usage: krl audit [-f <krl>] [-t <text>] [-aqx] [--all] [--canary <file>] [--exclude <name>] \
-[--json] [--files0-from <file>] [file|directory]...
+[--json] [--files0-from <file>] [--sshd <file>] [--passwd <file>] [--command-output <file>] \
+[file|directory]...
 
 For more information, try '--help'.
 ";
@@ -87,7 +92,17 @@ For more information, try '--help'.
 const EXCLUDES_PATH: &str = "error: --exclude takes the name of a file or a directory, not a path
 
 Usage: krl audit [-f <krl>] [-t <text>] [-aqx] [--all] [--canary <file>] [--exclude <name>] \
-[--json] [--files0-from <file>] [file|directory]...
+[--json] [--files0-from <file>] [--sshd <file>] [--passwd <file>] [--command-output <file>] \
+[file|directory]...
+
+For more information, try '--help'.
+";
+
+const WITHOUT_SSHD: &str = "error: --passwd and --command-output go with --sshd
+
+Usage: krl audit [-f <krl>] [-t <text>] [-aqx] [--all] [--canary <file>] [--exclude <name>] \
+[--json] [--files0-from <file>] [--sshd <file>] [--passwd <file>] [--command-output <file>] \
+[file|directory]...
 
 For more information, try '--help'.
 ";

@@ -20,7 +20,7 @@ pub struct Subcommand {
     arguments: &'static [Argument],
 }
 
-const AUDIT: [Argument; 11] = [
+const AUDIT: [Argument; 14] = [
     Argument {
         id: "list",
         syntax: Syntax::LetterValue('f', "krl"),
@@ -72,6 +72,21 @@ const AUDIT: [Argument; 11] = [
         help: "Read names of files, each ended by a zero byte; - is standard input",
     },
     Argument {
+        id: "sshd",
+        syntax: Syntax::LongValues("file"),
+        help: "Audit what an sshd reads for keys, by this output of sshd -T; - is standard input",
+    },
+    Argument {
+        id: "passwd",
+        syntax: Syntax::LongValue("file"),
+        help: "The users of --sshd, as getent passwd prints them, instead of /etc/passwd",
+    },
+    Argument {
+        id: "command-output",
+        syntax: Syntax::LongValues("file"),
+        help: "What the AuthorizedKeysCommand of --sshd printed",
+    },
+    Argument {
         id: "files",
         syntax: Syntax::Words("file|directory"),
         help: "What is audited; - is standard input",
@@ -111,7 +126,7 @@ const LOGINS: [Argument; 6] = [
     },
 ];
 
-const CHECK: [Argument; 11] = [
+const CHECK: [Argument; 12] = [
     Argument {
         id: "list",
         syntax: Syntax::Word("krl"),
@@ -136,6 +151,11 @@ const CHECK: [Argument; 11] = [
         id: "max-cas",
         syntax: Syntax::LongValue("number"),
         help: "Refuse a list with more CAs than this, instead of more than 4,000",
+    },
+    Argument {
+        id: "sshd",
+        syntax: Syntax::LongValue("file"),
+        help: "Refuse a list that is not the one of the sshd of this output of sshd -T",
     },
     Argument {
         id: "keep",

@@ -43,6 +43,12 @@ pub struct Audit<'a> {
     pub exclude: Vec<&'a str>,
     /// The file of names of files, by `--files0-from`.
     pub names_from: Option<&'a str>,
+    /// The outputs of `sshd -T`, by `--sshd`.
+    pub sshd: Vec<&'a str>,
+    /// The users of these sshds, by `--passwd`.
+    pub passwd: Option<&'a str>,
+    /// What a command printed that sshd runs for keys, by `--command-output`.
+    pub command_output: Vec<&'a str>,
     /// Files and directories.
     pub files: Vec<&'a str>,
 }
@@ -109,6 +115,8 @@ pub struct Check<'a> {
     pub max_age: Option<u64>,
     /// The largest number of its certificate authorities, by `--max-cas`.
     pub max_cas: Option<u64>,
+    /// The output of `sshd -T` of the sshd whose list it must be, by `--sshd`.
+    pub sshd: Option<&'a str>,
     /// The files of keys that it must not revoke, by `--keep`.
     pub keep: Vec<&'a str>,
     /// The files of keys that it must revoke, by `--canary`.

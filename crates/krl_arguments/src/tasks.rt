@@ -7,7 +7,8 @@ ghost use Rattle.clap.specs.Walk.{rows_of};
 ghost use Rattle.krl_arguments.specs.Misuse.{result_map};
 ghost use Rattle.krl_arguments.specs.Task.{audit_by, audit_of, audit_with, check_by, check_of};
 ghost use Rattle.krl_arguments.specs.Task.{check_with, diff_by, diff_of, has_only_version, if_any};
-ghost use Rattle.krl_arguments.specs.Task.{if_checks, if_list, if_names, if_searches, is_no_name};
+ghost use Rattle.krl_arguments.specs.Task.{if_checks, if_list, if_names, if_searches, if_sshd};
+ghost use Rattle.krl_arguments.specs.Task.{is_no_name};
 ghost use Rattle.krl_arguments.specs.Task.{logins_by, logins_of, logins_with, max_age_of};
 ghost use Rattle.krl_arguments.specs.Task.{named_task, reads_list_alone, show_by, show_with};
 ghost use Rattle.krl_arguments.specs.Task.{task_by, task_in};
@@ -88,6 +89,8 @@ fn audit_with<'a>(alloc: Global, found: &ArgMatches<'a>) -> Result<Audit<'a>, Al
     let texts = values_of(alloc, found, "texts")?;
     let canary = values_of(alloc, found, "canary")?;
     let exclude = values_of(alloc, found, "exclude")?;
+    let sshd = values_of(alloc, found, "sshd")?;
+    let command_output = values_of(alloc, found, "command-output")?;
     let files = values_of(alloc, found, "files")?;
     Ok(Audit {
         list: value_of(found, "list"),
@@ -100,15 +103,18 @@ fn audit_with<'a>(alloc: Global, found: &ArgMatches<'a>) -> Result<Audit<'a>, Al
         canary,
         exclude,
         names_from: value_of(found, "files0-from"),
+        sshd,
+        passwd: value_of(found, "passwd"),
+        command_output,
         files,
     })
 }
 
-// The audit, if a list or a text is given.
+// The audit, if a list, a text or an output of `sshd -T` is given.
 fn if_list(audit: Audit<'_>) -> Result<Audit<'_>, Misuse>
     ensures { result_map audit_by result ≡ if_list (audit_by audit.entry) }
 {
-    if audit.list.is_none() && audit.texts.is_empty() {
+    if audit.list.is_none() && audit.texts.is_empty() && audit.sshd.is_empty() {
         Err(Misuse::NoList)
     } else {
         if_names(audit)
@@ -122,15 +128,26 @@ fn if_names(audit: Audit<'_>) -> Result<Audit<'_>, Misuse>
     if no_names_among(audit.exclude.as_slice()) > 0 {
         Err(Misuse::ExcludesPath)
     } else {
+        if_sshd(audit)
+    }
+}
+
+// The audit, unless users or outputs of a command are given, and no output of `sshd -T`.
+fn if_sshd(audit: Audit<'_>) -> Result<Audit<'_>, Misuse>
+    ensures { result_map audit_by result ≡ if_sshd (audit_by audit.entry) }
+{
+    if audit.sshd.is_empty() && (audit.passwd.is_some() || !audit.command_output.is_empty()) {
+        Err(Misuse::WithoutSshd)
+    } else {
         if_any(audit)
     }
 }
 
-// The audit, if a file, a directory or a file of names is given.
+// The audit, if a file, a directory, a file of names or an output of `sshd -T` is given.
 fn if_any(audit: Audit<'_>) -> Result<Audit<'_>, Misuse>
     ensures { result_map audit_by result ≡ if_any (audit_by audit.entry) }
 {
-    if audit.names_from.is_none() && audit.files.is_empty() {
+    if audit.names_from.is_none() && audit.files.is_empty() && audit.sshd.is_empty() {
         Err(Misuse::NothingToAudit)
     } else {
         Ok(audit)
@@ -224,6 +241,7 @@ fn check_with<'a>(
         superset_of: value_of(found, "superset-of"),
         max_age: max_age_of(found),
         max_cas: count_at(found, "max-cas"),
+        sshd: value_of(found, "sshd"),
         keep,
         canary,
         allow_empty: is_set(found, "allow-empty"),
@@ -277,6 +295,7 @@ fn reads_list_alone(check: &Check<'_>) -> bool
 {
     check.newer_than.is_none()
         && check.superset_of.is_none()
+        && check.sshd.is_none()
         && check.keep.is_empty()
         && check.canary.is_empty()
         && check.names.is_empty()

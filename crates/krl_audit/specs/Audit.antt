@@ -31,6 +31,7 @@ use Rattle.text_index.specs.Indexing.{HasRegister}
 use Rattle.text_index.specs.NamingLines.{Register}
 use Rattle.text_index.specs.declared.indexing.TextIndex.{TextIndex}
 use Rattle.krl_audit.specs.declared.auditor.Auditor.{Auditor}
+use Rattle.krl_audit.specs.declared.auditor.FileName.{FileName as FileNameOf}
 use Rattle.krl_audit.specs.declared.counts.Counts.{Counts}
 use Rattle.audit_text.specs.declared.line_kind.LineKind.{LineKind}
 use Rattle.audit_text.specs.declared.line_kind.LineKind.TheVariants as kinds
@@ -87,6 +88,18 @@ line_item answers shown name number outcome =
 
 -- ---- files
 
+-- The name of a file, and the name by which it is decided how its lines are read.
+pub record FileName : Type 0 where
+  pub shown : List ℕ
+  pub read_as : List ℕ
+
+-- a file whose own name decides it
+abbrev pub own_name : List ℕ → FileName
+own_name name = record { shown = name; read_as = name }
+
+abbrev pub name_by : FileNameOf → FileName
+name_by name = record { shown = name.shown.now; read_as = name.read_as.now }
+
 -- the file as a whole, which has the number 0
 abbrev pub whole : Why → List Placed
 whole why = place 0 (Unread why) ∷ []
@@ -101,7 +114,7 @@ text_lines true name text = private_lines name text
 text_lines false name text =
     let lines = plain_lines (fronts_of name) text in or_whole (keyless lines) lines
 
--- the outcomes of a file, by its name, and by its bytes or why there are none
+-- the outcomes of a file that is read as one of this name, by its bytes or why there are none
 unfoldable pub file_lines : List ℕ → Result (List ℕ) Refusal → List Placed
 file_lines name (Err refusal) = whole (whys.File refusal)
 file_lines name (Ok text) = text_lines (begins_container text) name text
@@ -132,12 +145,12 @@ abbrev pub kinds_of : (Subject → Answer) → List Placed → List LineKind
 kinds_of answers lines = map (λ line. kind_of answers line.outcome) lines
 
 -- the items of a file, and the kinds of lines that are counted
-unfoldable pub file_items : (Subject → Answer) → Shown → List ℕ → Result (List ℕ) Refusal
+unfoldable pub file_items : (Subject → Answer) → Shown → FileName → Result (List ℕ) Refusal
     → List Item
 file_items answers shown name content =
-    let lines = file_lines name content in
-    lines_items answers shown name none_yet lines
-    ++ rest_items shown name (all_tallied none_yet (kinds_of answers lines))
+    let lines = file_lines name.read_as content in
+    lines_items answers shown name.shown none_yet lines
+    ++ rest_items shown name.shown (all_tallied none_yet (kinds_of answers lines))
 
 unfoldable pub file_kinds : (Subject → Answer) → List ℕ → Result (List ℕ) Refusal
     → List LineKind
@@ -248,11 +261,11 @@ Tells old name tally lines result new =
     old.counts new.counts
 
 -- The same for a file.
-pub record ToldFile (answers : Subject → Answer) (shown : Shown) (name : List ℕ)
+pub record ToldFile (answers : Subject → Answer) (shown : Shown) (name : FileName)
     (content : Result (List ℕ) Refusal) (result : Result (Unit {0}) RunFault) (old new : Printer)
     (before after : Counts) : Type 0 where
   pub carries : Carries (file_items answers shown name content) result old new
-  pub counts : OnOk result (after ≡ all_counted before (file_kinds answers name content))
+  pub counts : OnOk result (after ≡ all_counted before (file_kinds answers name.read_as content))
 
 -- The audit ended as a run over its items does, with the status of its counts.
 pub record EndsAudit (run : List Item) (counts : Counts) (before after : Option (List ℕ))

@@ -10,7 +10,7 @@ ghost use Rattle.json_lines.specs.Field.{json_line};
 ghost use Rattle.krl_types.specs.Subject.{Subject as SubjectOf};
 ghost use Rattle.audit_text.specs.Answer.{Answer as AnswerOf};
 ghost use Rattle.krl_audit.specs.Audit.{EndsAudit, JudgesAs, Tells, ToldFile, SaysLine, content_of};
-ghost use Rattle.krl_audit.specs.Audit.{file_lines, more_item, text_lines};
+ghost use Rattle.krl_audit.specs.Audit.{file_lines, more_item, name_by, text_lines};
 ghost use Rattle.krl_audit.specs.Audit.{rest_items, said_if, whole};
 ghost use Rattle.krl_audit.specs.Done.{done_object};
 ghost use Rattle.audit_lines.specs.declared.front.Fronts.{Fronts as FrontsOf};
@@ -38,6 +38,17 @@ use std::alloc::Global;
 
 // The line that ends a private key.
 const END_LINE: &[u8] = b"-----END OPENSSH PRIVATE KEY-----";
+
+/// The name of a file, and the name by which it is decided how its lines are read, which is mostly
+/// the same. What is before the key of a line, and whether each line is read of a file that begins
+/// with a private key, is decided by a name.
+#[derive(Clone, Copy)]
+pub struct FileName<'a> {
+    /// The name that is printed.
+    pub shown: &'a str,
+    /// The name that decides how the lines are read.
+    pub read_as: &'a str,
+}
 
 /// Audits files: has the list for the queries, the printer and the counts.
 #[derive(Drop)]
@@ -71,55 +82,57 @@ impl<'q, 'w, W: Sink> Auditor<'q, 'w, W> {
 
     /// Audits a file, given its bytes or why there are none: prints the findings of each of its
     /// lines after the earlier findings, and counts the lines. Each finding depends only on the
-    /// list's entries and the canaries, on the name and on the bytes. The first 20 lines with a
+    /// list's entries and the canaries, on the names and on the bytes. The first 20 lines with a
     /// revoked key are printed one by one, and then how many more there are; so are the lines that
     /// are not read, and those with a key that is not revoked.
     pub fn audit_file<'a>(
         &mut self,
-        name: &'a str,
+        name: FileName<'a>,
         content: Result<&[u8], Refusal>,
     ) -> Result<(), RunFault<'a>>
         ensures told { (answers : SubjectOf → AnswerOf) → JudgesAs self.old.judge answers
-            → ToldFile answers self.old.judge.shown name.now (content_of content.entry)
-            result self.old.run.printer self.new.run.printer self.old.counts self.new.counts }
+            → ToldFile answers self.old.judge.shown (name_by name.entry)
+            (content_of content.entry) result self.old.run.printer self.new.run.printer
+            self.old.counts self.new.counts }
         ensures judge { self.new.judge ≡ self.old.judge }
     {
         let tally = self.audit_lines(name, content)?;
-        self.say_rest(name, tally)
+        self.say_rest(name.shown, tally)
     }
 
     // Audits a file but for its last finding. Returns the numbers of its lines.
     fn audit_lines<'a>(
         &mut self,
-        name: &'a str,
+        name: FileName<'a>,
         content: Result<&[u8], Refusal>,
     ) -> Result<Tally, RunFault<'a>>
-        ensures told { Tells self.old name.now none_yet
-            (file_lines name.now (content_of content.entry)) result self.new }
+        ensures told { Tells self.old name.entry.shown.now none_yet
+            (file_lines name.entry.read_as.now (content_of content.entry)) result self.new }
         ensures judge { self.new.judge ≡ self.old.judge }
     {
         match content {
-            Err(refusal) => self.say_whole(name, Why::File(refusal)),
+            Err(refusal) => self.say_whole(name.shown, Why::File(refusal)),
             Ok(text) if is_container(text) => self.audit_private(name, text),
             Ok(text) => self.audit_plain(name, text),
         }
     }
 
     // Audits a file that begins with no private key.
-    fn audit_plain<'a>(&mut self, name: &'a str, text: &[u8]) -> Result<Tally, RunFault<'a>>
-        ensures told { Tells self.old name.now none_yet (text_lines false name.now text.now) result
-            self.new }
+    fn audit_plain<'a>(&mut self, name: FileName<'a>, text: &[u8]) -> Result<Tally, RunFault<'a>>
+        ensures told { Tells self.old name.entry.shown.now none_yet
+            (text_lines false name.entry.read_as.now text.now) result self.new }
         ensures judge { self.new.judge ≡ self.old.judge }
     {
-        let fronts = Fronts::of(name.as_bytes());
+        let FileName { shown, read_as } = name;
+        let fronts = Fronts::of(read_as.as_bytes());
         let (line, after) = split_line(text);
         let Ok(first) = read_outcomes(self.run.alloc, fronts, line) else {
-            return Err(RunFault::whole(name, Cause::NoMemory));
+            return Err(RunFault::whole(shown, Cause::NoMemory));
         };
         match keyless(self.run.alloc, fronts, &first, text) {
-            Ok(Some(count)) => self.say_whole(name, Why::NoKeys(count)),
-            Ok(None) => self.audit_from(name, fronts, &first, after),
-            Err(_) => Err(RunFault::whole(name, Cause::NoMemory)),
+            Ok(Some(count)) => self.say_whole(shown, Why::NoKeys(count)),
+            Ok(None) => self.audit_from(shown, fronts, &first, after),
+            Err(_) => Err(RunFault::whole(shown, Cause::NoMemory)),
         }
     }
 
@@ -259,14 +272,18 @@ impl<'q, 'w, W: Sink> Auditor<'q, 'w, W> {
     }
 
     // Audits a private key file, and the lines that are read beside its key.
-    fn audit_private<'a>(&mut self, name: &'a str, text: &[u8]) -> Result<Tally, RunFault<'a>>
-        ensures told { Tells self.old name.now none_yet (private_lines name.now text.now) result
-            self.new }
+    fn audit_private<'a>(&mut self, name: FileName<'a>, text: &[u8]) -> Result<Tally, RunFault<'a>>
+        ensures told { Tells self.old name.entry.shown.now none_yet
+            (private_lines name.entry.read_as.now text.now) result self.new }
         ensures judge { self.new.judge ≡ self.old.judge }
     {
+        let FileName {
+            shown: name,
+            read_as,
+        } = name;
         let tally = self.say_private(name, text)?;
-        let fronts = Fronts::of(name.as_bytes());
-        if is_read_by_lines(name.as_bytes()) {
+        let fronts = Fronts::of(read_as.as_bytes());
+        if is_read_by_lines(read_as.as_bytes()) {
             return self.audit_rest(Location { name, number: 0 }, fronts, tally, text);
         }
         match behind_private(text) {

@@ -10,7 +10,7 @@ pub mod laws;
 mod same;
 mod tally;
 
-pub use auditor::{Auditor, say_made};
+pub use auditor::{Auditor, FileName, say_made};
 pub use counts::Counts;
 pub use done::{FileCounts, ListFacts};
 pub use judge::{Judge, JudgedLine, Shown, says};

@@ -13,7 +13,7 @@ use Rattle.krl_types.specs.Naming.{Name, SomeNames}
 use Rattle.krl_types.specs.Subject.{Subject}
 use Rattle.krl_entries.specs.Revocations.{Revocations}
 use Rattle.krl_entries.specs.declared.reasons.Reasons.{Reasons}
-use Rattle.krl_audit.specs.Audit.{file_items, file_kinds}
+use Rattle.krl_audit.specs.Audit.{file_items, file_kinds, own_name}
 use Rattle.krl_audit.specs.Counts.{all_counted}
 use Rattle.audit_lines.specs.Keyless.{keyless_lines}
 use Rattle.krl_audit.specs.declared.counts.Counts.{Counts}
@@ -98,7 +98,7 @@ counts_items form role name counts =
 abbrev pub keys_items : Format → Role → (Subject → Reasons) → List ℕ → Result (List ℕ) Refusal
     → List Item
 keys_items form role reasons name content =
-    file_items (unexplained reasons) (shown_for role form) name content
+    file_items (unexplained reasons) (shown_for role form) (own_name name) content
     ++ counts_items form role name (counts_of reasons name content)
 
 -- The keys of a file were checked, after the earlier checks; or the check was stopped.

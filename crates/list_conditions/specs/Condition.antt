@@ -4,6 +4,8 @@ use Rattle.std.specs.Prelude.{List, codes}
 use Rattle.list_conditions.specs.Role.{is_met, role_word}
 use Rattle.list_conditions.specs.declared.condition.Condition.{Condition}
 use Rattle.list_conditions.specs.declared.condition.Condition.TheVariants as conditions
+use Rattle.list_conditions.specs.declared.condition.SshdUse.{SshdUse}
+use Rattle.list_conditions.specs.declared.condition.SshdUse.TheVariants as uses
 
 -- how many seconds after the present moment a list may have been made, since clocks differ
 abbrev pub most_ahead : ℕ
@@ -14,6 +16,18 @@ most_ahead = 300
 abbrev pub is_fresh : (generated now max_age : ℕ) → Bool
 is_fresh generated now max_age =
     nat_le (generated - now) most_ahead && nat_le (now - generated) max_age
+
+-- The sshd does not use the list that is checked.
+abbrev pub use_fails : SshdUse → Bool
+use_fails uses.This = false
+use_fails uses.Nothing = true
+use_fails uses.Other = true
+
+-- what the sshd does
+abbrev pub use_words : SshdUse → List ℕ
+use_words uses.This = codes "uses this list"
+use_words uses.Nothing = codes "uses no list"
+use_words uses.Other = codes "uses another list"
 
 -- The condition fails by what was found.
 abbrev pub fails : Condition → Bool
@@ -27,6 +41,7 @@ fails (conditions.Age generated now max_age) = not (is_fresh generated now max_a
 fails conditions.NoDate = true
 fails (conditions.NothingLost other) = false
 fails (conditions.Lost other entries) = true
+fails (conditions.Sshd output found) = use_fails found
 fails (conditions.Keys role counts) = not (is_met role counts)
 
 abbrev pub condition_word : Condition → List ℕ
@@ -40,4 +55,5 @@ condition_word (conditions.Age generated now max_age) = codes "age"
 condition_word conditions.NoDate = codes "age"
 condition_word (conditions.NothingLost other) = codes "lost"
 condition_word (conditions.Lost other entries) = codes "lost"
+condition_word (conditions.Sshd output found) = codes "sshd"
 condition_word (conditions.Keys role counts) = role_word role

@@ -12,6 +12,8 @@ use Rattle.list_conditions.specs.Condition.{condition_word, fails}
 use Rattle.list_conditions.specs.Text.{dsa_text, no_date, no_version}
 use Rattle.list_conditions.specs.declared.condition.Condition.{Condition}
 use Rattle.list_conditions.specs.declared.condition.Condition.TheVariants as conditions
+use Rattle.list_conditions.specs.declared.condition.SshdUse.{SshdUse}
+use Rattle.list_conditions.specs.declared.condition.SshdUse.TheVariants as uses
 
 abbrev pub why_field : List ℕ → Field
 why_field words = word_field (codes "why") words
@@ -43,6 +45,14 @@ abbrev pub lost_fields : (other : List ℕ) → (entries : ℕ) → List Field
 lost_fields other entries =
     word_field (codes "other") other ∷ number_field (codes "entries") entries ∷ []
 
+-- the name of the output of sshd -T, and what is wrong with the list that the sshd uses
+abbrev pub sshd_fields : (output : List ℕ) → SshdUse → List Field
+sshd_fields output uses.This = word_field (codes "sshd") output ∷ []
+sshd_fields output uses.Nothing =
+    word_field (codes "sshd") output ∷ why_field (codes "it uses no list") ∷ []
+sshd_fields output uses.Other =
+    word_field (codes "sshd") output ∷ why_field (codes "it uses another list") ∷ []
+
 -- what was found
 abbrev pub finding_fields : Condition → List Field
 finding_fields (conditions.OpenSsh difference) = difference_fields difference
@@ -55,6 +65,7 @@ finding_fields (conditions.Age generated now max_age) = age_fields generated now
 finding_fields conditions.NoDate = why_field no_date ∷ []
 finding_fields (conditions.NothingLost other) = lost_fields other.now 0
 finding_fields (conditions.Lost other entries) = lost_fields other.now entries
+finding_fields (conditions.Sshd output found) = sshd_fields output.now found
 finding_fields (conditions.Keys role counts) = line_count_fields counts
 
 -- A condition is about a list, or about a file of keys.

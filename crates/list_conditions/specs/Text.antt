@@ -9,7 +9,7 @@ use Rattle.krl_openssh.specs.Difference.{difference_words}
 use Rattle.krl_openssh.specs.declared.difference.Difference.{Difference}
 use Rattle.plain_list.specs.Dsa.{dsa_words}
 use Rattle.plain_list.specs.declared.dsa.DsaLine.{DsaLine}
-use Rattle.list_conditions.specs.Condition.{condition_word}
+use Rattle.list_conditions.specs.Condition.{condition_word, use_words}
 use Rattle.list_conditions.specs.declared.condition.Condition.{Condition}
 use Rattle.list_conditions.specs.declared.condition.Condition.TheVariants as conditions
 
@@ -84,6 +84,8 @@ finding_text name conditions.NoDate = no_date
 finding_text name (conditions.NothingLost other) = []
 finding_text name (conditions.Lost other entries) =
     entries_text entries ++ (codes " not in " ++ visible false name)
+finding_text name (conditions.Sshd output found) =
+    codes "the sshd of " ++ (visible false output.now ++ (codes " " ++ use_words found))
 finding_text name (conditions.Keys role counts) = counts_text counts
 
 -- The line is about the list or the file of this name, or about the list whose entries are lost.

@@ -20,7 +20,7 @@ use crate::text::write_line;
 use audit_lines::{Refusal, keyless_lines};
 use audit_text::Format;
 use byte_streams::Sink;
-use krl_audit::{Auditor, Counts, Judge};
+use krl_audit::{Auditor, Counts, FileName, Judge};
 use krl_entries::Revocations;
 use run_faults::{Cause, RunFault};
 use run_output::{Done, Printer, Run};
@@ -134,7 +134,11 @@ impl<'q, 'w, W: Sink> Checker<'q, 'w, W> {
         self.auditor.judge.texts = None;
         self.auditor.judge.shown = role.shown(self.auditor.judge.shown.format);
         self.auditor.counts = Counts::NONE;
-        self.auditor.audit_file(name, content)?;
+        let file = FileName {
+            shown: name,
+            read_as: name,
+        };
+        self.auditor.audit_file(file, content)?;
         self.check_counts(role, name, content)
     }
 

@@ -1,7 +1,7 @@
 //! The conditions that a list must meet before it is put in force.
 
 ghost use Rattle.std.specs.Prelude.{◌≡◌};
-ghost use Rattle.list_conditions.specs.Condition.{condition_word, fails, is_fresh};
+ghost use Rattle.list_conditions.specs.Condition.{condition_word, fails, is_fresh, use_words};
 
 use crate::role::Role;
 use krl_audit::Counts;
@@ -10,6 +10,30 @@ use plain_list::DsaLine;
 
 // How many seconds after the present moment a list may have been made, since clocks differ.
 const MOST_AHEAD: u64 = 300;
+
+/// Which list an sshd uses.
+#[derive(Clone, Copy)]
+pub enum SshdUse {
+    /// The list that is checked.
+    This,
+    /// No list.
+    Nothing,
+    /// Another list than the one that is checked.
+    Other,
+}
+
+impl SshdUse {
+    /// What the sshd does, in words.
+    pub(crate) fn words(self) -> &'static str
+        ensures { result.now ≡ use_words self }
+    {
+        match self {
+            SshdUse::This => "uses this list",
+            SshdUse::Nothing => "uses no list",
+            SshdUse::Other => "uses another list",
+        }
+    }
+}
 
 /// A condition, with what was found about it. Moments are in seconds since 1970.
 #[derive(Clone, Copy)]
@@ -37,6 +61,9 @@ pub enum Condition<'a> {
     NothingLost(&'a str),
     /// It must have all entries of the list of this name, and lacks so many.
     Lost(&'a str, u64),
+    /// It is the list of the sshd whose output of `sshd -T` has this name: the list that the sshd
+    /// uses.
+    Sshd(&'a str, SshdUse),
     /// It does to the keys of a file what it must: the counts of the file.
     Keys(Role, Counts),
 }
@@ -53,8 +80,9 @@ impl<'a> Condition<'a> {
             Condition::Slow(authorities, most) => authorities > most,
             Condition::Version(version, least) => version < least,
             Condition::Age(generated, now, max_age) => !is_fresh(generated, now, max_age),
-            Condition::NothingLost(_) => false,
+            Condition::NothingLost(_) | Condition::Sshd(_, SshdUse::This) => false,
             Condition::NoVersion | Condition::NoDate | Condition::Lost(..) => true,
+            Condition::Sshd(_, SshdUse::Nothing | SshdUse::Other) => true,
             Condition::Keys(role, counts) => !role.is_met(counts),
         }
     }
@@ -70,6 +98,7 @@ impl<'a> Condition<'a> {
             Condition::Version(..) | Condition::NoVersion => "version",
             Condition::Age(..) | Condition::NoDate => "age",
             Condition::NothingLost(_) | Condition::Lost(..) => "lost",
+            Condition::Sshd(..) => "sshd",
             Condition::Keys(role, _) => role.word(),
         }
     }

@@ -1,5 +1,5 @@
 //! Checks a key revocation list before it is put in force: OpenSSH also reads it, it is not older
-//! than another, it revokes no key that must be kept, and it revokes each canary.
+//! than another, an sshd uses it, it revokes no key that must be kept, and it revokes each canary.
 #![tactic(auto)]
 
 mod checker;
@@ -10,5 +10,5 @@ mod role;
 mod text;
 
 pub use checker::{Checker, names_nobody};
-pub use condition::Condition;
+pub use condition::{Condition, SshdUse};
 pub use role::Role;

@@ -5,7 +5,7 @@ ghost use Rattle.json_lines.specs.Field.{json_line};
 ghost use Rattle.list_conditions.specs.Object.{condition_object, end_object, finding_fields};
 ghost use Rattle.list_conditions.specs.Object.{kind_word};
 
-use crate::condition::Condition;
+use crate::condition::{Condition, SshdUse};
 use crate::text::{Dsa, no_date, no_version};
 use cert_listing::time_text;
 use json_lines::{Digits, Fields, LineWriter, Named, Text, object, put_fields};
@@ -83,6 +83,13 @@ impl<'a> Fields for Finding<'a> {
             }
             Condition::Lost(other, entries) => {
                 put_fields!(alloc, out; "other": other, "entries": entries)
+            }
+            Condition::Sshd(output, SshdUse::This) => put_fields!(alloc, out; "sshd": output),
+            Condition::Sshd(output, SshdUse::Nothing) => {
+                put_fields!(alloc, out; "sshd": output, "why": "it uses no list")
+            }
+            Condition::Sshd(output, SshdUse::Other) => {
+                put_fields!(alloc, out; "sshd": output, "why": "it uses another list")
             }
             Condition::Keys(_, counts) => counts.put_fields(alloc, out),
         }

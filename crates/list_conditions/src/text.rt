@@ -88,6 +88,10 @@ impl<'a> Printed for Finding<'a> {
             Condition::Lost(_, entries) => {
                 put!(out; Entries(entries), b" not in ", Visible(self.name.as_bytes(), false))
             }
+            Condition::Sshd(output, found) => {
+                put!(out; b"the sshd of ", Visible(output.as_bytes(), false), b" ",
+                    Words(found.words().as_bytes()))
+            }
             Condition::Keys(_, counts) => put!(out; Counted(counts)),
         }
     }

@@ -4,6 +4,7 @@ use crate::tests::shelf::{Item, Paper, Shelf};
 use audit_run::{Audited, Options, Order, Sources, audit_run, push_summary};
 use byte_streams::{FromRead, ToWrite};
 use ssh_wire::Bytes;
+use sshd_files::SshdFile;
 use std::alloc::Global;
 use std::process::Abort;
 use test_fixtures::{GITHUB_LINE, Giver, Taker, joined};
@@ -29,29 +30,33 @@ pub struct Case<'a> {
     pub status: u8,
 }
 
-/// The options of an audit, and the bytes of a reader of names.
+/// The options of an audit, the bytes of a reader of names, and the files that sshd reads.
 #[derive(Clone, Copy)]
 pub struct Asked<'a> {
     pub options: Options,
     pub every: bool,
     pub names: Option<&'a [u8]>,
+    pub sought: &'a [SshdFile],
 }
 
 /// An audit of files by their names, with no option.
-pub const PLAIN: Asked<'static> = Asked {
-    options: LOUD,
-    every: false,
-    names: None,
-};
+pub fn plain() -> Asked<'static> {
+    Asked {
+        options: LOUD,
+        every: false,
+        names: None,
+        sought: &[],
+    }
+}
 
 /// Checks an audit of names that a reader gives, and of paths. Standard input is a line with the
 /// key of the list.
-pub fn check(
+pub fn check<'a>(
     rt: &impl Abort,
     alloc: Global,
     items: &[Item<'_>],
-    asked: &Asked<'_>,
-    case: &Case<'_>,
+    asked: &Asked<'a>,
+    case: &Case<'a>,
 ) {
     let mut taker = Taker::whole(alloc);
     let mut out = Paper {
@@ -61,6 +66,7 @@ pub fn check(
         list: "revoked.krl",
         canaries: None,
         texts: None,
+        sought: asked.sought,
         shown: asked.options.shown(),
         every_file: asked.every,
         names_from: "names",

@@ -114,6 +114,7 @@ fn audited_in(alloc: Global, depth: usize) -> (u8, u64) {
         list: "none",
         canaries: None,
         texts: None,
+        sought: &[],
         shown: LOUD.shown(),
         every_file: false,
         names_from: "",

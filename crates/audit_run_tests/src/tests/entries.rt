@@ -1,6 +1,6 @@
 //! Each kind of entry of a directory, and of a path that is named (krl(1), FILES THAT ARE READ).
 
-use crate::tests::audits::{Asked, Case, LOUD, PLAIN, REVOKED, check};
+use crate::tests::audits::{Asked, Case, LOUD, REVOKED, check, plain};
 use crate::tests::shelf::{Item, Node};
 use audit_lines::Refusal;
 use audit_run::Options;
@@ -290,7 +290,7 @@ nothing: unread: no file in this directory is read by its name\n",
 #[test]
 fn each_kind_of_entry(rt: HostRuntime) {
     for case in CASES {
-        check(&rt, rt.alloc(), ITEMS, &PLAIN, case);
+        check(&rt, rt.alloc(), ITEMS, &plain(), case);
     }
 }
 
@@ -298,7 +298,7 @@ fn each_kind_of_entry(rt: HostRuntime) {
 fn every_regular_file(rt: HostRuntime) {
     let all = Asked {
         every: true,
-        ..PLAIN
+        ..plain()
     };
     let case = Case {
         paths: &["every", "nothing"],
@@ -322,7 +322,7 @@ fn a_quiet_audit_ends_at_the_first_file_with_a_revoked_key(rt: HostRuntime) {
         quiet: true,
         ..LOUD
     };
-    let quiet = Asked { options, ..PLAIN };
+    let quiet = Asked { options, ..plain() };
     let case = Case {
         paths: &["gone", "x", "home"],
         text: &[],

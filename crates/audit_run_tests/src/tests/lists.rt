@@ -37,6 +37,7 @@ fn end_of(rt: &impl Abort, alloc: Global, list: Vec<u8>) -> End {
         list: "revoked.krl",
         canaries: None,
         texts: None,
+        sought: &[],
         shown: LOUD.shown(),
         every_file: false,
         names_from: "",

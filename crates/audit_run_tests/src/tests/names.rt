@@ -25,6 +25,7 @@ const fn asked(names: &[u8]) -> Asked<'_> {
         options: LOUD,
         every: false,
         names: Some(names),
+        sought: &[],
     }
 }
 
@@ -106,6 +107,7 @@ fn names_that_cannot_be_read_to_their_end(rt: HostRuntime) -> Result<(), Fail> {
         list: "revoked.krl",
         canaries: None,
         texts: None,
+        sought: &[],
         shown: LOUD.shown(),
         every_file: false,
         names_from: "names",

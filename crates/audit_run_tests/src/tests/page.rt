@@ -36,6 +36,7 @@ fn is_clean<T: Tree, W: Screen>(
         list: "revoked.krl",
         canaries: None,
         texts: None,
+        sought: &[],
         shown: NOTHING,
         every_file: false,
         names_from: "",

@@ -5,7 +5,7 @@ use audit_lines::Refusal;
 use audit_text::Format;
 use byte_streams::{Sink, ToWrite};
 use key_text::{read_line, sha1_of, sha256_of};
-use krl_audit::{Auditor, Counts, Judge, Shown};
+use krl_audit::{Auditor, Counts, FileName, Judge, Shown};
 use krl_entries::Revocations;
 use run_output::{Printer, Run};
 use span_sets::Held;
@@ -152,8 +152,12 @@ fn audit_into<W: Sink>(
         counts: Counts::NONE,
     };
     for (name, content) in files {
+        let file = FileName {
+            shown: *name,
+            read_as: *name,
+        };
         auditor
-            .audit_file(*name, *content)
+            .audit_file(file, *content)
             .expect(rt, "there is memory");
     }
     let status = auditor.finish(None).status;

@@ -230,7 +230,7 @@ fn a_line_that_is_not_read_has_its_fault(rt: HostRuntime) {
 }
 
 // Files that are not read, and their faults.
-const REFUSED: [(Refusal, &str, &str); 11] = [
+const REFUSED: [(Refusal, &str, &str); 13] = [
     (Refusal::Missing, "file 1 Open", "No such file or directory"),
     (Refusal::Denied, "file 1 Open", "Permission denied"),
     (Refusal::Irregular, "file 1 Open", "no regular file"),
@@ -265,6 +265,16 @@ const REFUSED: [(Refusal, &str, &str); 11] = [
         Refusal::TooLong,
         "file 3 TooLong",
         "it has more than 16 MiB",
+    ),
+    (
+        Refusal::NotAsked,
+        "file 1 Open",
+        "it is not asked: give its output by --command-output",
+    ),
+    (
+        Refusal::Wildcards,
+        "file 1 Open",
+        "sshd may read what its wildcards match: name these files",
     ),
 ];
 

@@ -9,7 +9,7 @@ use audit_lines::{Fronts, Outcome, Refusal, Why, read_outcomes};
 use audit_text::{Format, Location, say_unread};
 use byte_streams::{Sink, ToWrite};
 use json_lines::{Text, object};
-use krl_audit::{Auditor, Counts, Judge, Shown};
+use krl_audit::{Auditor, Counts, FileName, Judge, Shown};
 use krl_entries::Revocations;
 use run_faults::RunFault;
 use run_output::{Printer, Run};
@@ -40,7 +40,11 @@ fn audit_one<W: Sink>(
         run,
         counts: Counts::NONE,
     };
-    auditor.audit_file("authorized_keys", Ok(text))?;
+    let name = FileName {
+        shown: "authorized_keys",
+        read_as: "authorized_keys",
+    };
+    auditor.audit_file(name, Ok(text))?;
     Ok(auditor.counts)
 }
 

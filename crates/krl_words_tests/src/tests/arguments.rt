@@ -133,6 +133,31 @@ fn logins_are_searched(rt: HostRuntime) -> Result<(), Fail> {
 }
 
 #[test]
+fn audits_of_sshd(rt: HostRuntime) -> Result<(), Fail> {
+    let words = ["krl", "audit", "--sshd", "-"];
+    let audit = audit_by(rt.alloc(), &words)?;
+    assert!(rt; audit.sshd.as_slice() == ["-"].as_slice() && audit.passwd.is_none());
+    assert!(rt; audit.list.is_none() && audit.files.is_empty() && audit.command_output.is_empty());
+    let words = [
+        "krl",
+        "audit",
+        "--sshd=a",
+        "--sshd=b",
+        "--passwd",
+        "-",
+        "--command-output=c",
+        "--command-output",
+        "d",
+        "e",
+    ];
+    let audit = audit_by(rt.alloc(), &words)?;
+    assert!(rt; audit.sshd.as_slice() == ["a", "b"].as_slice() && audit.passwd == Some("-"));
+    assert!(rt; audit.command_output.as_slice() == ["c", "d"].as_slice());
+    assert!(rt; audit.files.as_slice() == ["e"].as_slice());
+    Ok(())
+}
+
+#[test]
 fn only_names_are_excluded(rt: HostRuntime) -> Result<(), Fail> {
     for excluded in ["", ".", "..", "/", "a/b", "a/"] {
         let words = [
@@ -303,11 +328,14 @@ fn comparisons(rt: HostRuntime) -> Result<(), Fail> {
     assert!(rt; diff.names.as_slice() == ["t", "u"].as_slice());
     let check = check_by(rt.alloc(), &["krl", "check", "k", "--superset-of", "s"])?;
     assert!(rt; check.superset_of == Some("s") && check.newer_than.is_none());
+    assert!(rt; check.sshd.is_none());
+    let check = check_by(rt.alloc(), &["krl", "check", "k", "--sshd", "-"])?;
+    assert!(rt; check.sshd == Some("-") && check.list == "k" && check.superset_of.is_none());
     Ok(())
 }
 
 // Words that are refused.
-static REFUSED: [&[&str]; 85] = [
+static REFUSED: [&[&str]; 96] = [
     &["krl", "audit", "-f-", "-"],
     &["krl", "audit", "-f-", "a", "-", "-"],
     &["krl", "audit", "-f-", "--files0-from", "-"],
@@ -319,6 +347,12 @@ static REFUSED: [&[&str]; 85] = [
     &["krl", "audit", "-t-", "-t-", "a"],
     &["krl", "audit", "-t-", "-"],
     &["krl", "audit", "-fk", "-xx", "a"],
+    &["krl", "audit", "--sshd"],
+    &["krl", "audit", "--sshd=-", "--sshd=-"],
+    &["krl", "audit", "--sshd=-", "--passwd=-"],
+    &["krl", "audit", "--sshd=a", "--passwd=b", "--passwd=c"],
+    &["krl", "audit", "-fk", "--passwd=b", "c"],
+    &["krl", "audit", "-fk", "--command-output=b", "c"],
     &["krl", "logins"],
     &["krl", "logins", "a"],
     &["krl", "logins", "-f", "k"],
@@ -351,6 +385,11 @@ static REFUSED: [&[&str]; 85] = [
     &["krl", "show", "a", "--names"],
     &["krl", "diff", "--names", "-", "-", "a"],
     &["krl", "check", "-", "--names", "-"],
+    &["krl", "check", "k", "--sshd"],
+    &["krl", "check", "-", "--sshd", "-"],
+    &["krl", "check", "k", "--keep", "-", "--sshd", "-"],
+    &["krl", "check", "k", "--sshd", "a", "--sshd", "a"],
+    &["krl", "check", "k", "--print-version", "--sshd", "a"],
     &["krl", "check", "k", "--names", "-", "--superset-of", "-"],
     &["krl", "check", "k", "--print-version", "--names", "a"],
     &["krl", "make", "-f", "k", "-", "-"],
@@ -489,7 +528,7 @@ const SAID: [(&[&str], &str); 16] = [
     ),
     (
         &["krl", "audit", "-f", "k"],
-        "error: a file, a directory or",
+        "error: a file, a directory, --files0-from or --sshd is needed",
     ),
     (
         &["krl", "check", "k", "--print-version", "--newer-than", "c"],

@@ -6,7 +6,7 @@ use byte_streams::{FromRead, Sink, ToWrite};
 use krl_core::read_krl;
 use krl_entries::Revocations;
 use krl_openssh::first_difference;
-use list_conditions::{Checker, Condition, Role, names_nobody};
+use list_conditions::{Checker, Condition, Role, SshdUse, names_nobody};
 use plain_list::{DsaLine, DsaPart};
 use run_faults::{RunFault, cause_of};
 use run_output::Printer;
@@ -88,7 +88,7 @@ const DSA_AUTHORITY: DsaLine = DsaLine {
 };
 
 // One condition, what is said, and the status.
-const CHECKS: [(Asked<'static>, &[u8], u8); 41] = [
+const CHECKS: [(Asked<'static>, &[u8], u8); 44] = [
     (Asked::OpenSsh(&HEADER), b"", 0),
     (Asked::That(Condition::Version(7, 7)), b"", 0),
     (Asked::That(Condition::Version(8, 7)), b"", 0),
@@ -150,6 +150,17 @@ read\n",
     (
         Asked::That(Condition::Lost("old.krl", 100)),
         b"lost: old.krl: 100 entries are not in r.krl\n",
+        1,
+    ),
+    (Asked::That(Condition::Sshd("t", SshdUse::This)), b"", 0),
+    (
+        Asked::That(Condition::Sshd("-", SshdUse::Nothing)),
+        b"sshd: r.krl: the sshd of - uses no list\n",
+        1,
+    ),
+    (
+        Asked::That(Condition::Sshd("a\u{9b}", SshdUse::Other)),
+        b"sshd: r.krl: the sshd of a\\x9b uses another list\n",
         1,
     ),
     // The largest age, and 5 minutes after the present moment.
@@ -261,7 +272,7 @@ canary: gone: 0 of 0 keys are revoked, 1 line is not read\n",
 ];
 
 // One condition, and its object.
-const OBJECTS: [(Asked<'static>, &[u8]); 18] = [
+const OBJECTS: [(Asked<'static>, &[u8]); 21] = [
     (
         Asked::OpenSsh(&HEADER),
         b"{\"condition\":\"openssh\",\"passed\":true,\"list\":\"r.krl\"}\n",
@@ -337,6 +348,20 @@ const OBJECTS: [(Asked<'static>, &[u8]); 18] = [
         Asked::That(Condition::Lost("old\".krl", 3)),
         b"{\"condition\":\"lost\",\"passed\":false,\"list\":\"r.krl\",\
 \"other\":\"old\\\".krl\",\"entries\":3}\n",
+    ),
+    (
+        Asked::That(Condition::Sshd("t", SshdUse::This)),
+        b"{\"condition\":\"sshd\",\"passed\":true,\"list\":\"r.krl\",\"sshd\":\"t\"}\n",
+    ),
+    (
+        Asked::That(Condition::Sshd("-", SshdUse::Nothing)),
+        b"{\"condition\":\"sshd\",\"passed\":false,\"list\":\"r.krl\",\"sshd\":\"-\",\
+\"why\":\"it uses no list\"}\n",
+    ),
+    (
+        Asked::That(Condition::Sshd("a\"", SshdUse::Other)),
+        b"{\"condition\":\"sshd\",\"passed\":false,\"list\":\"r.krl\",\"sshd\":\"a\\\"\",\
+\"why\":\"it uses another list\"}\n",
     ),
     (
         Asked::Keys(Role::Keep, "f", Ok(OTHER_LINE)),

@@ -6,7 +6,7 @@ use crate::tests::runs::{SEVEN, Shelf};
 use any_list::read_list;
 use audit_text::Format;
 use byte_streams::{FromRead, Sink, ToWrite};
-use check_run::{Host, check_run};
+use check_run::{Host, Loaded, check_run};
 use krl_arguments::Check;
 use krl_core::read_krl;
 use krl_entries::Revocations;
@@ -47,7 +47,11 @@ fn version_of(alloc: Global, bytes: &[u8]) -> Option<u64> {
 fn may_be_used<H: Host, W: Sink>(alloc: Global, task: &Check, host: &mut H, out: &mut W) -> bool
     requires { W.has_failed out.old ≡ false }
 {
-    match check_run(alloc, task, None, host, out) {
+    let loaded = Loaded {
+        names: None,
+        sshd: None,
+    };
+    match check_run(alloc, task, loaded, host, out) {
         Ok(done) => done.status == 0,
         Err(_) => false,
     }
@@ -73,6 +77,7 @@ fn the_callers_of_the_pages(rt: HostRuntime) {
         superset_of: None,
         max_age: None,
         max_cas: None,
+        sshd: None,
         keep: Vec::new(rt.alloc()),
         canary: Vec::new(rt.alloc()),
         allow_empty: false,

@@ -6,10 +6,11 @@ use crate::tests::checks::{NINE, SERIAL_ZERO};
 use any_list::Lists;
 use audit_lines::Refusal;
 use byte_streams::{Sink, ToWrite};
-use check_run::{Host, Unanswered, check_run};
+use check_run::{Host, Loaded, Unanswered, Used, check_run};
 use key_text::LineFault;
 use krl_arguments::Check;
 use krl_types::KrlFault;
+use list_conditions::SshdUse;
 use run_faults::{Cause, FileFault, KeyCause};
 use run_output::Done;
 use ssh_wire::Bytes;
@@ -85,8 +86,8 @@ pub const MORE: &[u8] = b"SSHKRL\n\0\0\0\0\x01\0\0\0\0\0\0\0\x07\0\0\0\0\0\0\0\0
 const DSA_LINE: &[u8] = b"# a key\nssh-dss AAAAB3NzaC1kc3MAAAABAwAAAAEDAAAAAQMAAAABAw==\n";
 
 /// A list, the one that it must not be older than, the one whose names it must have, the time of
-/// the clock, the largest age, the most authorities, and the files of keys that it must not revoke,
-/// and must revoke.
+/// the clock, the largest age, the most authorities, the list that the sshd of the output `t` uses,
+/// and the files of keys that it must not revoke, and must revoke.
 #[derive(Clone, Copy)]
 pub struct Asked {
     pub list: Result<&'static [u8], Cause>,
@@ -95,6 +96,7 @@ pub struct Asked {
     pub moment: Option<u64>,
     pub max_age: Option<u64>,
     pub max_cas: Option<u64>,
+    pub sshd: Option<SshdUse>,
     pub keep: &'static [&'static str],
     pub canary: &'static [&'static str],
     pub allow_empty: bool,
@@ -110,6 +112,7 @@ pub const NOTHING: Asked = Asked {
     moment: None,
     max_age: None,
     max_cas: None,
+    sshd: None,
     keep: &[],
     canary: &[],
     allow_empty: false,
@@ -127,7 +130,7 @@ pub type Row = (
     Option<(&'static str, Option<u64>, Cause)>,
 );
 
-const ROWS: [Row; 20] = [
+const ROWS: [Row; 22] = [
     (NOTHING, b"", 0, None),
     (
         Asked {
@@ -284,6 +287,31 @@ canary: key: 0 of 1 key is revoked, 0 lines are not read\n",
         255,
         Some(("o", None, Cause::Krl(KrlFault::EndsEarly))),
     ),
+    // The list of an sshd: behind what is lost, and before the files of keys.
+    (
+        Asked {
+            base: Some(Ok(MORE)),
+            sshd: Some(SshdUse::Other),
+            canary: &["other"],
+            ..NOTHING
+        },
+        b"  ca: all\n- serial: 100-101\nlost: b: 1 entry is not in l
+sshd: l: the sshd of t uses another list
+other:1: ok: ssh-ed25519 SHA256:SQfC+vTbLURn9cTkVxIS8fGQ3FKNAJWeB0o139+gV4M
+canary: other: 0 of 1 key is revoked, 0 lines are not read\n",
+        1,
+        None,
+    ),
+    (
+        Asked {
+            sshd: Some(SshdUse::This),
+            canary: &["key"],
+            ..NOTHING
+        },
+        b"",
+        0,
+        None,
+    ),
     // Lists that are not read.
     (
         Asked {
@@ -367,6 +395,7 @@ fn checked<W: Sink>(
         superset_of: asked.base.is_some().then_some("b"),
         max_age: asked.max_age,
         max_cas: asked.max_cas,
+        sshd: asked.sshd.is_some().then_some("t"),
         keep: Vec::from_slice(alloc, asked.keep)?,
         canary: Vec::from_slice(alloc, asked.canary)?,
         allow_empty: asked.allow_empty,
@@ -374,7 +403,11 @@ fn checked<W: Sink>(
         names: Vec::new(alloc),
         print_version: asked.print_version,
     };
-    Ok(check_run(alloc, &task, None, &mut shelf, out))
+    let loaded = Loaded {
+        names: None,
+        sshd: asked.sshd.map(|found| Used { output: "t", found }),
+    };
+    Ok(check_run(alloc, &task, loaded, &mut shelf, out))
 }
 
 // Returns true if a check was stopped by this fault, or by none.

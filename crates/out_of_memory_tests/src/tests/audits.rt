@@ -5,7 +5,7 @@ use crate::tests::buffer::Buffer;
 use audit_lines::{Fronts, Outcome, read_outcomes};
 use audit_text::Format;
 use byte_streams::{Sink, ToWrite};
-use krl_audit::{Auditor, Counts, FileCounts, Judge, ListFacts, Shown};
+use krl_audit::{Auditor, Counts, FileCounts, FileName, Judge, ListFacts, Shown};
 use krl_core::Revocations;
 use krl_format::Stated;
 use run_faults::{Cause, RunFault};
@@ -13,6 +13,16 @@ use run_output::{Printer, Run};
 use span_sets::Held;
 use std::alloc::{AllocError, Global};
 use test_fixtures::{CERT_LINE, CONTAINER, GITHUB, GITHUB_LINE, joined};
+
+const FILE: FileName<'static> = FileName {
+    shown: "f",
+    read_as: "f",
+};
+
+const PRIVATE: FileName<'static> = FileName {
+    shown: "id",
+    read_as: "id",
+};
 
 // The text that is printed for the lines of `audited`.
 const SAID: &[u8] = b"f:1: unread: no key type stands there
@@ -93,7 +103,7 @@ fn said_as_objects<W: Sink>(
         }),
         sha256: [0; 32],
     };
-    let stop = match auditor.audit_file("f", Ok(text)) {
+    let stop = match auditor.audit_file(FILE, Ok(text)) {
         Ok(()) => say_rest(&mut auditor, &facts).err(),
         Err(stop) => Some(stop),
     };
@@ -154,8 +164,8 @@ fn audited<W: Sink>(
         run,
         counts: Counts::NONE,
     };
-    let stop = match auditor.audit_file("f", Ok(text)) {
-        Ok(()) => auditor.audit_file("id", Ok(CONTAINER)).err(),
+    let stop = match auditor.audit_file(FILE, Ok(text)) {
+        Ok(()) => auditor.audit_file(PRIVATE, Ok(CONTAINER)).err(),
         Err(stop) => Some(stop),
     };
     let done = auditor.finish(stop);

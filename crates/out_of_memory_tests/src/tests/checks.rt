@@ -7,8 +7,9 @@ use crate::tests::buffer::Buffer;
 use any_list::Lists;
 use audit_lines::Refusal;
 use byte_streams::{Sink, ToWrite};
-use check_run::{Host, check_run};
+use check_run::{Host, Loaded, Used, check_run};
 use krl_arguments::Check;
+use list_conditions::SshdUse;
 use run_faults::Cause;
 use run_output::Done;
 use ssh_wire::Bytes;
@@ -30,6 +31,7 @@ version: p: a plain list has no version
 - key: ssh-ed25519 AAAAC3NzaC1lZDI1NTE5AAAAIBERERERERERERERERERERERERERERERERERERERERER \
 # SHA256:SQfC+vTbLURn9cTkVxIS8fGQ3FKNAJWeB0o139+gV4M
 lost: p: 1 entry is not in r.krl
+sshd: r.krl: the sshd of t uses no list
 f:1: revoked: ssh-ed25519 SHA256:+DiY3wvvV6TuJJhbpZisF/zLDA0zPMSvHdkr4UvCOqU by its key
 keep: f: 1 of 1 key is revoked, 0 lines are not read
 ";
@@ -42,6 +44,8 @@ const OBJECTS: &[u8] = b"{\"condition\":\"openssh\",\"passed\":false,\"list\":\"
 {\"condition\":\"version\",\"passed\":false,\"list\":\"p\",\"why\":\"a plain list has no version\"}
 {\"change\":\"removed\",\"key\":\"SHA256:SQfC+vTbLURn9cTkVxIS8fGQ3FKNAJWeB0o139+gV4M\"}
 {\"condition\":\"lost\",\"passed\":false,\"list\":\"r.krl\",\"other\":\"p\",\"entries\":1}
+{\"condition\":\"sshd\",\"passed\":false,\"list\":\"r.krl\",\"sshd\":\"t\",\
+\"why\":\"it uses no list\"}
 {\"file\":\"f\",\"line\":1,\"status\":\"revoked\",\"type\":\"ssh-ed25519\",\
 \"fingerprint\":\"SHA256:+DiY3wvvV6TuJJhbpZisF/zLDA0zPMSvHdkr4UvCOqU\",\"comment\":\"\",\
 \"reasons\":[{\"by\":\"key\"}]}
@@ -106,6 +110,7 @@ fn runs_out<W: Sink>(alloc: Global, wanted: Wanted, out: &mut W) -> Result<bool,
         superset_of: Some("p"),
         max_age: None,
         max_cas: None,
+        sshd: Some("t"),
         keep: Vec::from_slice(alloc, &["f", "g"])?,
         canary: Vec::new(alloc),
         allow_empty: false,
@@ -113,7 +118,14 @@ fn runs_out<W: Sink>(alloc: Global, wanted: Wanted, out: &mut W) -> Result<bool,
         names: Vec::new(alloc),
         print_version: wanted == Wanted::Version,
     };
-    match check_run(alloc, &task, None, &mut Shelf, out) {
+    let loaded = Loaded {
+        names: None,
+        sshd: Some(Used {
+            output: "t",
+            found: SshdUse::Nothing,
+        }),
+    };
+    match check_run(alloc, &task, loaded, &mut Shelf, out) {
         Ok(
             Done {
                 fault: Some(stop),

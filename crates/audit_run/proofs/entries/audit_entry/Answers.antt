@@ -4,6 +4,7 @@ use Rattle.std.specs.Prelude.{is_some}
 use Rattle.std.proofs.lemmas.Result.{err_from_is_err_and}
 use Rattle.audit_run.specs.Paths.{path_in}
 use Rattle.audit_lines.specs.declared.why.Refusal.TheVariants.{Open}
+use Rattle.krl_audit.specs.Audit.{own_name}
 use Rattle.audit_run.specs.Entries.{IsEntry, VisitsTarget, below, excluded, no_text, not_selected}
 use Rattle.audit_run.specs.Visits.{Skipped, refused}
 use Rattle.audit_run.specs.declared.files.Skip.TheVariants as skips
@@ -66,14 +67,14 @@ returns-in_err-audit_target-clause-entry g c =
     let keeps = rw c.if-is_excluded.false at c.is_excluded.ensures in
     let cases = c.in-Ok.ensures.cases in
     let looked = c.as_str-2.ensures.value ∙ c.in_ok-path.ensures ∙ ap (path_in c.args.place.path.now) cases.0 in
-    let passed = c.as_str-3.ensures.value ∙ c.in_ok-path.ensures ∙ ap (path_in c.args.place.path.now) cases.0 in
+    let passed = c.as_str-found_at.ensures.value ∙ c.in_ok-path.ensures ∙ ap (path_in c.args.place.path.now) cases.0 in
     let wants = rw (c.selection_of.ensures, c.reads_every.ensures, c.as_bytes.ensures.value) at c.is_always-2.ensures in
     let never = sym c.is_never.ensures ∙ c.if-is_never.false in
     let is = sym c.is_directory.ensures ∙ c.if-is_directory.false in
     rw (p.1, p.2) (record {
       visits = was.visits;
       is = begun_none c.in_err-audit_target.field-0.0
-          (λ visits. VisitsTarget (g.T.Tree.states c.args.tree.now) c.as_str-3.result.now c.is_always.result c.is_always-2.result
+          (λ visits. VisitsTarget (g.T.Tree.states c.args.tree.now) (own_name c.as_str-found_at.result.now) c.is_always.result c.is_always-2.result
           c.target_of-target.result visits)
           (λ below visits. IsEntry (g.T.Tree.states c.args.tree.now) c.args.place.every c.args.place.path.now c.args.name.now
           (is_some below) visits)
@@ -90,7 +91,7 @@ returns-clause-entry g c =
     let keeps = rw c.if-is_excluded.false at c.is_excluded.ensures in
     let cases = c.in-Ok.ensures.cases in
     let looked = c.as_str-2.ensures.value ∙ c.in_ok-path.ensures ∙ ap (path_in c.args.place.path.now) cases.0 in
-    let passed = c.as_str-3.ensures.value ∙ c.in_ok-path.ensures ∙ ap (path_in c.args.place.path.now) cases.0 in
+    let passed = c.as_str-found_at.ensures.value ∙ c.in_ok-path.ensures ∙ ap (path_in c.args.place.path.now) cases.0 in
     let wants = rw (c.selection_of.ensures, c.reads_every.ensures, c.as_bytes.ensures.value) at c.is_always-2.ensures in
     let never = sym c.is_never.ensures ∙ c.if-is_never.false in
     let is = sym c.is_directory.ensures ∙ c.if-is_directory.false in

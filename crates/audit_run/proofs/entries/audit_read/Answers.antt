@@ -1,7 +1,7 @@
 -- The file was read, or an allocation failed before anything was met.
 use Rattle.std.proofs.Common.{[], ◌∷◌, refl}
 use Rattle.std.proofs.lemmas.Result.{err_from_is_err_and}
-use Rattle.krl_audit.specs.Audit.{content_of}
+use Rattle.krl_audit.specs.Audit.{content_of, name_by}
 use Rattle.audit_run.specs.Visits.{Audited}
 use Rattle.audit_run.proofs.Auditing.{goes, goes_nothing}
 use Rattle.audit_run.proofs.Contents.{content_read}
@@ -14,11 +14,11 @@ returns-in_err-read g c = λ bytes was.
 
 pub returns : goal.returns
 returns g c = λ bytes was. rw c.round.view_is (
-    goes c.audit-done.result (Audited c.args.key c.args.path.now (content_of c.content_of.result) ∷ []) _ _ _
+    goes c.audit_as-done.result (Audited c.args.key (name_by c.args.name) (content_of c.content_of.result) ∷ []) _ _ _
     (record {
       content = content_of c.content_of.result;
       is = content_read _ bytes c.in_ok-read.read c.read_file.new.text.items _ _ c.content_of.ensures c.as_slice.ensures.value
           (c.in_ok-read.ensures bytes was);
       visits_are = refl;
-    }) c.audit-done.ensures
+    }) c.audit_as-done.ensures
     )

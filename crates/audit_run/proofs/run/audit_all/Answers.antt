@@ -7,7 +7,7 @@ pub returns-in-Ok-true-clause-all : goal.returns-in-Ok-true-clause-all
 returns-in-Ok-true-clause-all g c = λ answers before judges shown said.
     let went = c.in-Ok-true.ensures in
     rw c.err.ensures.value
-    (ended_all _ _ _ _ answers before went.visits c.say_last.result c.args.round.now c.audit_given.new.round c.say_last.new.round
+    (ended_all _ _ _ _ answers before went.visits c.say_last.result c.args.round.now c.audit_met.new.round c.say_last.new.round
     (rw c.in-Ok-true.field-0-test at went.is) (went.audits.audits answers judges)
     c.say_last.ensures.carries c.say_last.ensures.tally shown said)
 
@@ -15,7 +15,7 @@ pub returns-in-Ok-false-clause-all : goal.returns-in-Ok-false-clause-all
 returns-in-Ok-false-clause-all g c = λ answers before judges shown said.
     let went = c.in-Ok-false.ensures in
     rw c.names_fault.ensures
-    (ended_unread _ _ _ _ answers before went.visits c.args.round.now c.audit_given.new.round
+    (ended_unread _ _ _ _ answers before went.visits c.args.round.now c.audit_met.new.round
     (rw c.in-Ok-false.field-0-test at went.is) (went.audits.audits answers judges)
     shown said)
 
@@ -23,7 +23,7 @@ pub returns-in-Err-clause-all : goal.returns-in-Err-clause-all
 returns-in-Err-clause-all g c = λ answers before judges shown said.
     let went = c.in-Err.ensures in
     rw c.stop_fault.ensures
-    (ended_stopped _ _ _ _ answers before went.visits c.in-Err.stop c.args.round.now c.audit_given.new.round went.is (went.audits.audits answers judges)
+    (ended_stopped _ _ _ _ answers before went.visits c.in-Err.stop c.args.round.now c.audit_met.new.round went.is (went.audits.audits answers judges)
     went.audits.judge shown said)
 
 pub returns-in-Ok-true-clause-writer : goal.returns-in-Ok-true-clause-writer

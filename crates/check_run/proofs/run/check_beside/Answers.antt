@@ -68,6 +68,7 @@ returns-in-Ok-age_limit g c =
               is_lost = losts.are read.entries read.means;
             };
             age = moments.are;
+            sshd_is = refl;
           }) _ refl files.are;
     }
 

@@ -28,7 +28,7 @@ returns-then-task g c =
     tells_as (λ told. IsGiven told task.list.now given.bytes given.list) _ _ _ (λ told is.
     let prints = rw is.is.name_is at print in
     read given.bytes [] is.told_is given.list.header is.is.entries is.is.named
-    (ends_version task.print_version [] task.list.now given.bytes task c.args.names (g.W.Sink.taken c.args.out.now) (g.W.Sink.taken c.print_version.new.out)
+    (ends_version task.print_version [] task.list.now given.bytes task c.args.loaded (g.W.Sink.taken c.args.out.now) (g.W.Sink.taken c.print_version.new.out)
     (g.W.Sink.has_failed c.print_version.new.out) c.print_version.result given.list.header c.if-task.true refl prints)) c.in-Ok.ensures.found
 
 pub returns : goal.returns
@@ -43,6 +43,6 @@ returns g c =
       after_is = told_then _ _ _ first.told beside.told first.after_is beside.after_is;
       are =
           read given.bytes beside.told (rw is.told_is refl) given.list.header is.is.entries is.is.named
-          (ends_beside task.print_version beside.told task.list.now given.bytes task c.args.names (g.W.Sink.taken c.args.out.now) (g.W.Sink.taken c.check_beside.new.out)
+          (ends_beside task.print_version beside.told task.list.now given.bytes task c.args.loaded (g.W.Sink.taken c.args.out.now) (g.W.Sink.taken c.check_beside.new.out)
           (g.W.Sink.has_failed c.check_beside.new.out) c.check_beside.result given.list.header c.if-task.false beside.are);
     }

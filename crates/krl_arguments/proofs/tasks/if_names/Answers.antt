@@ -19,4 +19,4 @@ returns c =
     let n : ℕ = length (filter is_no_name (texts names)) in
     let same : c.no_names_among.result ≡ n = rw c.as_slice.ensures.value at c.no_names_among.ensures ∙ same_count is_no_name names in
     let none : nat_lt 0 n ≡ false = le-ltb 0 n (omega (arith, same, c.if-no_names_among-gt0.false)) in
-    rw none c.if_any.ensures
+    rw none c.if_sshd.ensures
