@@ -27,8 +27,8 @@ _krl() {
     offered=$(compgen -W '-f -n -q -u -z --comment --replace --allow-empty --help
       --version' -- "$word")
   else
-    offered=$(compgen -W '-a -f -q -t -x --all --canary --exclude --json --files0-from --sshd
-      --passwd --command-output --help --version' -- "$word")
+    offered=$(compgen -W '-a -f -q -t -x --all --scan --canary --exclude --json --label
+      --files0-from --sshd --passwd --command-output --help --version' -- "$word")
   fi
   [ -z "$offered" ] || mapfile -t COMPREPLY <<<"$offered"
   return 0

@@ -34,11 +34,15 @@ complete -c krl -n "$audits" -s q -d 'Print nothing on standard output'
 complete -c krl -n "$audits" -s x -d 'Stay on the file system of each directory that is named'
 complete -c krl -n "$audits" -l all \
   -d 'Read every regular file of a directory, whatever its name'
+complete -c krl -n "$audits" -l scan \
+  -d 'Find keys anywhere in the lines of every regular file'
 complete -c krl -n "$audits" -l canary -rF \
   -d 'Audit nothing unless the list revokes each key of this file'
 complete -c krl -n "$audits" -l exclude -x \
   -d 'Skip files and directories of this name in a directory'
 complete -c krl -n "$audits" -l json -d 'Print one JSON object on a line for each finding'
+complete -c krl -n "$audits" -l label -x \
+  -d 'Print this text before the name of each finding'
 complete -c krl -n "$audits" -l files0-from -rF \
   -d 'Read names of files, each ended by a zero byte'
 complete -c krl -n "$audits" -l sshd -rF \

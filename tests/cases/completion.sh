@@ -58,12 +58,13 @@ offers_krl 'the tasks of krl' --help,--version,audit,check,diff,help,logins,make
 offers_krl 'the tasks that have help' audit,check,diff,logins,make,show help ''
 offers_krl 'the task that was begun' audit a
 offers_krl 'the options of an audit' \
-  "--all,--canary,--command-output,--exclude,--files0-from,--help,--json,--passwd,--sshd,\
---version,-a,-f,-q,-t,-x" audit -
+  "--all,--canary,--command-output,--exclude,--files0-from,--help,--json,--label,--passwd,--scan,\
+--sshd,--version,-a,-f,-q,-t,-x" audit -
 offers_krl 'an output of sshd -T' one.pub audit --sshd o
 offers_krl 'a file of users' one.pub audit --sshd two.krl --passwd o
 offers_krl 'an output of a command' one.pub audit --sshd two.krl --command-output o
 offers_krl 'a file of canaries' one.pub audit -f two.krl --canary o
+offers_krl 'files to scan' one.pub audit --scan -f two.krl o
 offers_krl 'a list' two.krl audit -f t
 offers_krl 'files to audit' "$every" audit -f two.krl ''
 offers_krl 'a file of names' one.pub audit -f two.krl --files0-from o

@@ -829,9 +829,9 @@ $(cited three.txt 1)
 " "$one_revoked" audit -t none -t three.txt -t over bob
 
 # Words. Standard input can be read once.
-usage='Usage: krl audit [-f <krl>] [-t <text>] [-aqx] [--all] [--canary <file>] [--exclude <name>] '
-usage+='[--json] [--files0-from <file>] [--sshd <file>] [--passwd <file>] '
-usage+='[--command-output <file>] [file|directory]...'
+usage='Usage: krl audit [-f <krl>] [-t <text>] [-aqx] [--all] [--scan] [--canary <file>] '
+usage+='[--exclude <name>] [--json] [--label <text>] [--files0-from <file>] [--sshd <file>] '
+usage+='[--passwd <file>] [--command-output <file>] [file|directory]...'
 # misused NAME WHY USAGE WORD..: the words are refused for this reason, with the form of use or with
 # none.
 misused() {

@@ -13,7 +13,8 @@ mkdir table && cd table || exit 1
 for name in user-ca alice canary; do "$openssh" -q -t ed25519 -N '' -C $name -f $name; done
 { sed 's/^/key: /' alice.pub && echo "sha256: $(cat canary.pub)"; } >revoked.txt
 sed 's/^/key: /' alice.pub >more.txt
-mkdir -p tools home of_root && cp alice.pub home && cp user-ca.pub of_root
+mkdir -p tools home of_root folder && cp alice.pub home && cp user-ca.pub of_root
+printf '  - "%s"\n' "$(<alice.pub)" >folder/user-data
 printf 'Accepted publickey for alice from 192.0.2.7 port 4242 ssh2: ED25519 %s\n' \
   "$("$openssh" -l -f alice.pub | cut -d ' ' -f 2)" >auth.log
 ln -s "$program" tools/krl-keygen && ln -s "$krl" tools/krl

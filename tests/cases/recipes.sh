@@ -550,6 +550,130 @@ rm hosts
 follows 'no file of hosts' "$many" 1 '' again
 rm -r tools/ssh home of_root
 
+# ---- the keys of many hosts, from one place
+
+cp revoked.krl kept.krl
+"$program" -k -f revoked.krl alice.pub - <<<"sha256: $(cat canary.pub)"
+from_one='work=$(mktemp -d audit.'
+# The keys of a host are in /etc/ssh/keys, and a host without them has none.
+cat >tools/ssh <<END_OF_FILE
+#!/bin/bash
+[ "\$1 \$2" = '-n --' ] || exit 99
+refused() {
+  echo "ssh: connect to host \$1 port 22: Connection refused" >&2 && exit 255
+}
+keys=$room/keys
+END_OF_FILE
+cat >>tools/ssh <<'END_OF_FILE'
+exec {lock}>of-ssh && flock $lock
+rm -rf "$keys" && mkdir "$keys" && cp user-ca.pub "$keys/a"
+case $3 in
+  -* | down*) refused "$3" ;;
+  revoked) sed 's/ [^ ]*$/ web/' alice.pub >"$keys/b" ;;
+  joined) head -c -1 user-ca.pub >"$keys/a" && head -c -1 alice.pub >"$keys/b" ;;
+  half) ln -s gone "$keys/b" ;;
+  broken) cat alice.pub && exit 255 ;;
+  cut) head -c 60 alice.pub && refused "$3" ;;
+  none) rm -r "$keys" ;;
+  empty) : >"$keys/a" ;;
+  silent) exit 0 ;;
+  same) cat alice.pub && exit 1 ;;
+  odd) printf 'a\033[2J\302\233b\n' >&2 && head -c 60 alice.pub ;;
+  endless) exec yes "$(printf %099999d 0)" ;;
+  lies) printf 'good: status 0\n\nlies: status 0\n' | tee /dev/stderr ;;
+  slow) flock -u $lock && : >begun && until [ -e gate ]; do sleep 0.05; done ;;
+esac
+shift 3
+exec sh -c "$*"
+END_OF_FILE
+chmod +x tools/ssh
+# from_each STATUS LINE..: the recipe ends so, and the file audit has these lines about hosts. It
+# leaves no folder.
+from_each() {
+  local got
+  rm -f audit
+  try_recipe "$from_one" >output
+  got=$?
+  differs status "$1" $got
+  differs hosts "$(printf '%s\n' "${@:2}")" "$(grep -E '^[^:]*: (status|not) ?' audit)"
+  differs folders '' "$(ls -d audit.* 2>/dev/null)"
+}
+of_alice="revoked: ssh-ed25519 $("$openssh" -l -f alice.pub | cut -d ' ' -f 2) by its key"
+printf 'good\nother' >hosts
+follows 'hosts whose keys are audited here' "$from_one" 0 ''
+judge 'each has its line, also where the last line has no end' \
+  "$(from_each 0 'good: status 0' 'other: status 0')"
+printf '%s\n' down revoked joined -oProxyCommand='touch x' 'a b' '*' '$(touch x)' good >hosts
+judge 'hosts with revoked keys, with files that end without a line feed, and odd names' "$(
+  from_each 1 'down: not reached' 'revoked: status 1' 'joined: status 1' \
+    '-oProxyCommand=touch x: not reached' 'a b: status 0' '*: status 0' '$(touch x): status 0' \
+    'good: status 0'
+  differs findings "revoked:-:2: $of_alice: web
+joined:-:2: $of_alice: alice" "$(grep ': revoked: ' audit)"
+  grep -qxF 'down: said: ssh: connect to host down port 22: Connection refused' audit || cat audit
+  ls x 2>/dev/null
+)"
+printf '%s\n' half broken cut none empty silent same good >hosts
+judge 'hosts of which not all was read' "$(
+  from_each 1 'half: not all was read: 2, status 0' 'broken: not reached' 'cut: not reached' \
+    'none: not all was read: 2, status 0' 'empty: not all was read: empty, status 0' \
+    'silent: not all was read: empty, status 0' 'same: not all was read: 1, status 1' \
+    'good: status 0'
+  differs findings "broken:-:1: $of_alice: alice
+same:-:1: $of_alice: alice" "$(grep ': revoked: ' audit)"
+  grep -q '^cut:-:1: unread: ' audit || cat audit
+)"
+for it in 'down: not reached' 'half: not all was read: 2, status 0' \
+  'empty: not all was read: empty, status 0'; do
+  printf '%s\ngood\n' "${it%%:*}" >hosts
+  judge "one host of which not all was read: $it" "$(from_each 1 "$it" 'good: status 0')"
+done
+printf 'odd\nendless\nlies\n' >hosts
+judge 'a host that moves the terminal, one without an end, and one that lies' "$(
+  # With a smaller limit, which needs less of the disk.
+  steps=$(in_room "$(recipe "$from_one" | sed 's/ulimit -f 65536/ulimit -f 1024/')")
+  PATH=$PWD/tools:$PATH timeout 180 bash -c "$steps" 2>/dev/null && echo '  it ends well'
+  grep -qxF 'odd: said: a?[2J??b' audit || head -n 1 audit
+  grep -qx 'endless: not all was read: 153, status [03]' audit || tail -n 3 audit
+  differs 'lines of hosts that lie' 'lies: status 3' "$(grep -E '^(lies|good): status' audit)"
+)"
+mv revoked.krl whole.krl && "$program" -k -f revoked.krl alice.pub
+echo good >hosts
+judge 'a list that does not revoke the canary here' "$(
+  from_each 1 'good: status 255'
+  grep -q '^good: said: krl: canary.pub: .* \[audit 1 Canary\]$' audit || cat audit
+)"
+head -c 60 whole.krl >revoked.krl
+judge 'a list that is truncated here' "$(from_each 1 'good: status 255')"
+mv whole.krl revoked.krl
+# Two runs at the same time: the one that began first ends last.
+printf 'slow\nrevoked\n' >hosts
+try_recipe "$from_one" >of-slow &
+run=$!
+for _ in $(seq 600); do [ ! -e begun ] || break; sleep 0.05; done
+# The first run still reads its own file of hosts.
+echo good >others && mv others hosts
+try_recipe "$from_one" >of-quick
+judge 'a run beside one that waits' "$(
+  differs status 0 $?
+  differs hosts 'good: status 0' "$(grep -E ': (status|not) ?' audit)"
+)"
+: >gate
+wait $run
+judge 'the run that waited' "$(
+  differs status 1 $?
+  differs hosts $'slow: status 0\nrevoked: status 1' "$(grep -E ': (status|not) ?' audit)"
+  differs findings "revoked:-:2: $of_alice: web" "$(grep ': revoked: ' audit)"
+  differs folders '' "$(ls -d audit.* 2>/dev/null)"
+)"
+rm audit gate begun
+: >hosts
+follows 'a file of no host to read from' "$from_one" 1 '' again
+rm hosts
+follows 'no file of hosts to read from' "$from_one" 1 '' again
+judge 'no file is made then' "$(ls -d audit* 2>/dev/null)"
+rm -r tools/ssh "$room/keys" of-ssh && mv kept.krl revoked.krl
+
 # ---- the logins of many hosts
 
 cp revoked.txt kept.txt && cp revoked.krl kept.krl
@@ -583,7 +707,7 @@ searched() {
   differs status "$1" $got
   differs statuses "$(printf '%s\n' "${@:2}")" "$(grep -E '^[^:]*: journal: status ' logins)"
 }
-logins='work='
+logins='work=$(mktemp -d)'
 printf 'good\nother' >hosts
 follows 'hosts without a revoked login' "$logins" 0 ''
 judge 'each has its statuses, also where the last line has no end' "$(

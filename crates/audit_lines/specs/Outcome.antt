@@ -195,13 +195,18 @@ private_outcome (Err fault) = Unread (whys.Private fault)
 
 -- ---- files
 
--- an outcome, and the number of its line
+-- an outcome, the number of its line, and the column in which its key begins; 0 represents the
+-- whole line
 pub record Placed : Type 0 where
   pub number : ℕ
+  pub column : ℕ
   pub outcome : Outcome
 
+abbrev pub in_column : ℕ → ℕ → Outcome → Placed
+in_column number column outcome = record { number = number; column = column; outcome = outcome }
+
 abbrev pub place : ℕ → Outcome → Placed
-place number outcome = record { number = number; outcome = outcome }
+place number outcome = in_column number 0 outcome
 
 abbrev pub place_second : ℕ → Option Outcome → List Placed
 place_second number None = []

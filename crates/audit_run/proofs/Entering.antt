@@ -1,7 +1,7 @@
 -- A name of a directory, and where it leads.
 use Rattle.std.proofs.Common.{◌≡◌, ℕ, Bool, false, List, Option, None, Result, Err, refl, inl, inr}
 use Rattle.std.specs.Str.{IsUtf8}
-use Rattle.krl_audit.specs.Audit.{own_name}
+use Rattle.audit_run.specs.Search.{name_in, selects_every}
 use Rattle.audit_run.specs.Selection.{selection_of}
 use Rattle.audit_run.specs.Paths.{path_in}
 use Rattle.audit_run.specs.declared.selection.Selection.{Selection}
@@ -12,15 +12,16 @@ use Rattle.audit_run.specs.Fact.{Excludes, Fact, Leads}
 use Rattle.audit_run.specs.Visits.{Begun, Visit}
 use Rattle.audit_run.specs.declared.file_kind.Found.{Found}
 use Rattle.audit_run.specs.declared.stop.Stop.{Stop}
+use Rattle.audit_run.specs.declared.search.Search.{Search}
 
 -- it leads to no directory
-pub entry_here : (Knows : Fact → Type 0) (every : Bool) (directory name at other : List ℕ) (selection : Selection)
+pub entry_here : (Knows : Fact → Type 0) (search : Search) (directory name at other : List ℕ) (selection : Selection)
     (by_name expected : Bool) (looked target : Result Found Refusal) (visits : List Visit) → Knows (Excludes name false) → IsUtf8 name
-    → at ≡ path_in directory name → other ≡ path_in directory name → selection ≡ selection_of every name
+    → at ≡ path_in directory name → other ≡ path_in directory name → selection ≡ selection_of (selects_every search) name
     → by_name ≡ is_always selection → expected ≡ is_expected directory name → is_never selection ≡ false → Knows (Leads at false looked)
-    → is_directory looked ≡ false → IsTarget Knows other looked target → VisitsTarget Knows (own_name other) by_name expected target visits
-    → IsEntry Knows every directory name false visits
-entry_here Knows every directory name at other selection by_name expected looked target visits keeps utf8 at_is other_is chosen by wants never
+    → is_directory looked ≡ false → IsTarget Knows other looked target → VisitsTarget Knows (name_in search other) by_name expected target visits
+    → IsEntry Knows search directory name false visits
+entry_here Knows search directory name at other selection by_name expected looked target visits keeps utf8 at_is other_is chosen by wants never
     looks is leads met =
     here looked target keeps utf8 (rw chosen at never) (rw at_is at looks) is (rw other_is at leads) refl
     (rw (other_is, by, chosen, wants) at met)

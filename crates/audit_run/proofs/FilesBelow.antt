@@ -26,12 +26,14 @@ use Rattle.audit_run.specs.Names.{left_out, looked_at, no_name, not_looked_at, s
 use Rattle.audit_run.specs.Names.{no_text as no_text_name, not_selected as not_selected_name}
 use Rattle.audit_run.specs.Reading.{front_of}
 use Rattle.krl_audit.specs.Audit.{own_name}
+use Rattle.audit_run.specs.Search.{name_in, search_in, selects_every}
 use Rattle.audit_run.specs.Visits.{Audited, Visit, refused}
-use Rattle.audit_run.specs.Walk.{IsDirectory, IsEntered, IsEnteredBelow, IsOpen, Level, Turns, before, elsewhere, endless, entered, entered_below, every_in, not_entered, stopped, walked}
+use Rattle.audit_run.specs.Walk.{IsDirectory, IsEntered, IsEnteredBelow, IsOpen, Level, Turns, before, elsewhere, endless, entered, entered_below, not_entered, stopped, walked}
 use Rattle.audit_run.specs.ZeroEnded.{names_after}
 use Rattle.audit_run.specs.declared.file_kind.FileKind.{FileKind}
 use Rattle.audit_run.specs.declared.file_kind.FileKind.TheVariants as kinds
 use Rattle.audit_run.specs.declared.file_kind.Found.{Found}
+use Rattle.audit_run.specs.declared.search.Search.{Search}
 use Rattle.audit_run.proofs.Covering.{IsGoneTo, IsPartOf, IsWalked, gone, gone_down, not_in_nothing, one_of_one, walk_covers}
 
 -- ---- lists
@@ -54,17 +56,17 @@ one_unread : (visits all : List Visit) (path : List ℕ) (refusal : Refusal) →
     → SomeUnread all
 one_unread visits all path refusal is part =
     let one : Visit = Audited None (own_name path) (Err refusal) in
-    (path, refusal, part one (subst (λ (v : List Visit). Contains v one) (sym is) (at_head one [])))
+    (own_name path, refusal, part one (subst (λ (v : List Visit). Contains v one) (sym is) (at_head one [])))
 
 -- ---- a visit of a path
 
 one_visit : (visits : List Visit) (path : List ℕ) (visit : Visit) → visits ≡ visit ∷ [] → IsVisitOf path visit → SomeVisit path visits
 one_visit visits path visit is of = (visit, (subst (λ (v : List Visit). Contains v visit) (sym is) (at_head visit []), of))
 
-opened_visit : (Knows : Fact → Type 0) (path : List ℕ) (held : OpenFile) (visits : List Visit)
-    → IsOpened Knows (own_name path) held.identity held.bytes visits → SomeVisit path visits
-opened_visit Knows path held visits (read is) = one_visit visits path _ is.visits_are refl
-opened_visit Knows path held visits (seen_before told is) = one_visit visits path _ is refl
+opened_visit : (Knows : Fact → Type 0) (search : Search) (path : List ℕ) (held : OpenFile) (visits : List Visit)
+    → IsOpened Knows (name_in search path) held.identity held.bytes visits → SomeVisit path visits
+opened_visit Knows search path held visits (read is) = one_visit visits path _ is.visits_are refl
+opened_visit Knows search path held visits (seen_before told is) = one_visit visits path _ is refl
 
 not_both : (b : Bool) → b ≡ true → b ≡ false → ⊥
 not_both true holds fails = cc
@@ -77,44 +79,44 @@ begins_known bytes (Some all) value is begins =
     let same : all ≡ bytes = cc in
     subst (λ (b : List ℕ). begins_container (front_of b) ≡ value) same begins
 
-private_file_visit : (Knows : Fact → Type 0) (path : List ℕ) (held : OpenFile) (bytes : List ℕ) (visits : List Visit)
+private_file_visit : (Knows : Fact → Type 0) (search : Search) (path : List ℕ) (held : OpenFile) (bytes : List ℕ) (visits : List Visit)
     → held.bytes ≡ Some bytes → begins_container (front_of bytes) ≡ true
-    → IsPrivateFile Knows (own_name path) held.identity held.bytes visits → SomeVisit path visits
-private_file_visit Knows path held bytes visits known begins (private front is) = opened_visit Knows path held visits is
-private_file_visit Knows path held bytes visits known begins (passed_file front is) =
+    → IsPrivateFile Knows (name_in search path) held.identity held.bytes visits → SomeVisit path visits
+private_file_visit Knows search path held bytes visits known begins (private front is) = opened_visit Knows search path held visits is
+private_file_visit Knows search path held bytes visits known begins (passed_file front is) =
     absurd (not_both (begins_container (front_of bytes)) begins (begins_known bytes held.bytes false known front))
-private_file_visit Knows path held bytes visits known begins (unread refusal fails is) = one_visit visits path _ is refl
+private_file_visit Knows search path held bytes visits known begins (unread refusal fails is) = one_visit visits path _ is refl
 
-private_visit : (Knows : Fact → Type 0) (path : List ℕ) (selection : Selection) (file found : Found) (held : OpenFile) (visits : List Visit)
+private_visit : (Knows : Fact → Type 0) (search : Search) (path : List ℕ) (selection : Selection) (file found : Found) (held : OpenFile) (visits : List Visit)
     → IsSteady Knows → found ≡ file → Knows (Opens path (Some found) (Ok held)) → is_always selection ≡ false
-    → IsSelected Knows path file selection → IsPrivateFile Knows (own_name path) held.identity held.bytes visits → SomeVisit path visits
-private_visit Knows path _ file found held visits steady same opens only by_name is = absurd (cc)
-private_visit Knows path _ file found held visits steady same opens only (by_front other bytes opened known begins) is =
+    → IsSelected Knows path file selection → IsPrivateFile Knows (name_in search path) held.identity held.bytes visits → SomeVisit path visits
+private_visit Knows search path _ file found held visits steady same opens only by_name is = absurd (cc)
+private_visit Knows search path _ file found held visits steady same opens only (by_front other bytes opened known begins) is =
     let there : Knows (Opens path (Some file) (Ok held)) = subst (λ (f : Found). Knows (Opens path (Some f) (Ok held))) same opens in
     let both : Ok held ≡ Ok other = steady.opens path (Some file) (Ok held) (Ok other) there opened in
     let it : held ≡ other = cc in
-    private_file_visit Knows path held bytes visits (ap (λ (o : OpenFile). o.bytes) it ∙ known) begins is
+    private_file_visit Knows search path held bytes visits (ap (λ (o : OpenFile). o.bytes) it ∙ known) begins is
 
-target_visit : (Knows : Fact → Type 0) (path : List ℕ) (selection : Selection) (expected : Bool) (file : Found)
+target_visit : (Knows : Fact → Type 0) (search : Search) (path : List ℕ) (selection : Selection) (expected : Bool) (file : Found)
     (target : Result Found Refusal) (visits : List Visit) → IsSteady Knows → target ≡ Ok file → file.kind ≡ kinds.File
-    → IsSelected Knows path file selection → VisitsTarget Knows (own_name path) (is_always selection) expected target visits → SomeVisit path visits
-target_visit Knows path selection expected file target visits steady is_file kind selects (unseen refusal so is) =
+    → IsSelected Knows path file selection → VisitsTarget Knows (name_in search path) (is_always selection) expected target visits → SomeVisit path visits
+target_visit Knows search path selection expected file target visits steady is_file kind selects (unseen refusal so is) =
     one_visit visits path _ is refl
-target_visit Knows path selection expected file target visits steady is_file kind selects (not_opened found refusal so kind_is opens is) =
+target_visit Knows search path selection expected file target visits steady is_file kind selects (not_opened found refusal so kind_is opens is) =
     one_visit visits path _ is refl
-target_visit Knows path selection expected file target visits steady is_file kind selects (not_regular found held so kind_is opens no_file is) =
+target_visit Knows search path selection expected file target visits steady is_file kind selects (not_regular found held so kind_is opens no_file is) =
     one_visit visits path _ is refl
-target_visit Knows path selection expected file target visits steady is_file kind selects (whole found held so kind_is opens still by is) =
-    opened_visit Knows path held visits is
-target_visit Knows path selection expected file target visits steady is_file kind selects
+target_visit Knows search path selection expected file target visits steady is_file kind selects (whole found held so kind_is opens still by is) =
+    opened_visit Knows search path held visits is
+target_visit Knows search path selection expected file target visits steady is_file kind selects
     (private_only found held so kind_is opens still only is) =
     let same : found ≡ file = cc in
-    private_visit Knows path selection file found held visits steady same opens only selects is
-target_visit Knows path selection expected file target visits steady is_file kind selects (null_device found so kind_is is) =
+    private_visit Knows search path selection file found held visits steady same opens only selects is
+target_visit Knows search path selection expected file target visits steady is_file kind selects (null_device found so kind_is is) =
     let same : found ≡ file = cc in
     let bad : kinds.Null ≡ kinds.File = sym kind_is ∙ ap (λ (f : Found). f.kind) same ∙ kind in
     absurd (cc)
-target_visit Knows path selection expected file target visits steady is_file kind selects (irregular found so kind_is is) =
+target_visit Knows search path selection expected file target visits steady is_file kind selects (irregular found so kind_is is) =
     let same : found ≡ file = cc in
     let bad : is_irregular found.kind ≡ false =
     ap (λ (f : Found). is_irregular f.kind) same ∙ ap (λ (k : FileKind). is_irregular k) kind in
@@ -202,30 +204,30 @@ are_taken Knows every path name _ _ _ (left_out first names wanted skipped may r
 -- ---- the directories that were entered
 
 -- A directory was entered, with all its names that are wanted.
-pub record WasEntered (Knows : Fact → Type 0) (every named : Bool) (directory : List ℕ) (had : List Level) : Type 0 where
+pub record WasEntered (Knows : Fact → Type 0) (search : Search) (named : Bool) (directory : List ℕ) (had : List Level) : Type 0 where
   pub names : List (Vec ℕ)
   pub skipped : ℕ
-  pub is_open : IsOpen Knows (every_in every directory) directory named names skipped
+  pub is_open : IsOpen Knows (selects_every (search_in search directory)) directory named names skipped
   pub level : Level
   pub path_is : level.path ≡ directory
-  pub every_is : level.every ≡ every_in every directory
+  pub search_is : level.search ≡ search_in search directory
   pub names_are : level.names ≡ reverse names
   pub is_had : Contains had level
 
-level_had : (Knows : Fact → Type 0) (every named : Bool) (path : List ℕ) (visits all : List Visit) (levels had : List Level)
-    → IsEntered Knows every named path visits levels → IsPartOf visits all → IsPartOf levels had
-    → WasEntered Knows every named path had ⊎ SomeUnread all
-level_had Knows every named path visits all levels had (not_entered refusal why is levels_are) part grows =
+level_had : (Knows : Fact → Type 0) (search : Search) (named : Bool) (path : List ℕ) (visits all : List Visit) (levels had : List Level)
+    → IsEntered Knows search named path visits levels → IsPartOf visits all → IsPartOf levels had
+    → WasEntered Knows search named path had ⊎ SomeUnread all
+level_had Knows search named path visits all levels had (not_entered refusal why is levels_are) part grows =
     inr (one_unread visits all path refusal is part)
-level_had Knows every named path visits all levels had (entered names skipped is_open is levels_are) part grows =
-    let level : Level = record { path = path; every = every_in every path; names = reverse names } in
+level_had Knows search named path visits all levels had (entered names skipped is_open is levels_are) part grows =
+    let level : Level = record { path = path; search = search_in search path; names = reverse names } in
     inl (record {
       names = names;
       skipped = skipped;
       is_open = is_open;
       level = level;
       path_is = refl;
-      every_is = refl;
+      search_is = refl;
       names_are = refl;
       is_had = grows level (subst (λ (l : List Level). Contains l level) (sym levels_are) (at_head level []));
     })
@@ -235,16 +237,16 @@ if_known bytes None P is holds = absurd (cc)
 if_known bytes (Some all) P is holds = let it : all ≡ bytes = cc in subst P it holds
 
 -- a name of it that is wanted is one of its names that were gone to
-name_had : (Knows : Fact → Type 0) (every named : Bool) (directory name : List ℕ) (had : List Level) → IsSteady Knows
-    → (was : WasEntered Knows every named directory had) → HasName Knows named directory name
-    → (IsWanted Knows (every_in every directory) directory false name → ⊥)
+name_had : (Knows : Fact → Type 0) (search : Search) (named : Bool) (directory name : List ℕ) (had : List Level) → IsSteady Knows
+    → (was : WasEntered Knows search named directory had) → HasName Knows named directory name
+    → (IsWanted Knows (selects_every (search_in search directory)) directory false name → ⊥)
     → (it : Vec ℕ) × ((it.items ≡ name) × Contains was.level.names it)
-name_had Knows every named directory name had steady was has not_left =
+name_had Knows search named directory name had steady was has not_left =
     let known : Ok was.is_open.left ≡ Ok (Some has.bytes) =
     steady.lists directory named (Ok was.is_open.left) (Ok (Some has.bytes)) was.is_open.lists has.lists in
     let left : was.is_open.left ≡ Some has.bytes = cc in
     let in_order = if_known has.bytes was.is_open.left _ left was.is_open.listed in
-    let it = are_taken Knows (every_in every directory) directory name (names_after [] has.bytes) in_order.wanted in_order.count
+    let it = are_taken Knows (selects_every (search_in search directory)) directory name (names_after [] has.bytes) in_order.wanted in_order.count
     in_order.are_wanted has.one_of not_left in
     let one = Contains-permutation in_order.wanted was.names it.0 in_order.same it.1.1 in
     let back = Contains-permutation was.names (reverse was.names) it.0 (IsPermutation-reverse was.names) one in
@@ -256,51 +258,51 @@ not_at_once Knows name steady leaves keeps =
     cc
 
 -- a directory that is on the same file system was entered
-below_had : (Knows : Fact → Type 0) (every : Bool) (path : List ℕ) (visits all : List Visit) (levels had : List Level) → IsSteady Knows
-    → Knows (Elsewhere path false) → IsEnteredBelow Knows every path visits levels → IsPartOf visits all → IsPartOf levels had
-    → WasEntered Knows every false path had ⊎ SomeUnread all
-below_had Knows every path visits all levels had steady stays (elsewhere leaves is levels_are) part grows =
+below_had : (Knows : Fact → Type 0) (search : Search) (path : List ℕ) (visits all : List Visit) (levels had : List Level) → IsSteady Knows
+    → Knows (Elsewhere path false) → IsEnteredBelow Knows search path visits levels → IsPartOf visits all → IsPartOf levels had
+    → WasEntered Knows search false path had ⊎ SomeUnread all
+below_had Knows search path visits all levels had steady stays (elsewhere leaves is levels_are) part grows =
     let same : true ≡ false = steady.elsewheres path true false leaves stays in
     absurd (cc)
-below_had Knows every path visits all levels had steady stays (entered_below stays_too enters) part grows =
-    level_had Knows every false path visits all levels had enters part grows
+below_had Knows search path visits all levels had steady stays (entered_below stays_too enters) part grows =
+    level_had Knows search false path visits all levels had enters part grows
 
-entry_down : (Knows : Fact → Type 0) (every : Bool) (path name : List ℕ) (found : Found) (visits : List Visit) → IsSteady Knows
+entry_down : (Knows : Fact → Type 0) (search : Search) (path name : List ℕ) (found : Found) (visits : List Visit) → IsSteady Knows
     → Knows (Leads (path_in path name) false (Ok found)) → found.kind ≡ kinds.Directory → IsUtf8 name → Knows (Excludes name false)
-    → IsEntry Knows every path name false visits → ⊥
-entry_down Knows every path name found visits steady leads kind text keeps (excluded leaves down is) =
+    → IsEntry Knows search path name false visits → ⊥
+entry_down Knows search path name found visits steady leads kind text keeps (excluded leaves down is) =
     not_at_once Knows name steady leaves keeps
-entry_down Knows every path name found visits steady leads kind text keeps (no_text kept bad down is) = bad text
-entry_down Knows every path name found visits steady leads kind text keeps (not_selected kept utf8 never down is) = cc
-entry_down Knows every path name found visits steady leads kind text keeps (below found_too kept utf8 never looked dir down is) = cc
-entry_down Knows every path name found visits steady leads kind text keeps (here looked target kept utf8 never looks dir leads_to down is) =
+entry_down Knows search path name found visits steady leads kind text keeps (no_text kept bad down is) = bad text
+entry_down Knows search path name found visits steady leads kind text keeps (not_selected kept utf8 never down is) = cc
+entry_down Knows search path name found visits steady leads kind text keeps (below found_too kept utf8 never looked dir down is) = cc
+entry_down Knows search path name found visits steady leads kind text keeps (here looked target kept utf8 never looks dir leads_to down is) =
     let it = steady.leads (path_in path name) false looked (Ok found) looks leads in
     let so : is_directory (Ok found) ≡ false = subst (λ (o : Result Found Refusal). is_directory o ≡ false) it dir in
     not_both (is_directory_kind found.kind) (ap (λ (k : FileKind). is_directory_kind k) kind) so
 
 -- where it leads to a directory this was entered
-went_down : (Knows : Fact → Type 0) (every : Bool) (had : List Level) (all : List Visit) (level : Level) (name : Vec ℕ) (found : Found)
+went_down : (Knows : Fact → Type 0) (search : Search) (had : List Level) (all : List Visit) (level : Level) (name : Vec ℕ) (found : Found)
     → IsSteady Knows → Knows (Leads (path_in level.path name.items) false (Ok found)) → found.kind ≡ kinds.Directory → IsUtf8 name.items
-    → Knows (Excludes name.items false) → Knows (Elsewhere (path_in level.path name.items) false) → IsGoneTo Knows every had all level name
-    → WasEntered Knows every false (path_in level.path name.items) had ⊎ SomeUnread all
-went_down Knows every had all level name found steady leads kind text keeps stays (gone_down some deep is enters part grows) =
-    below_had Knows every (path_in level.path name.items) some all deep had steady stays enters part grows
-went_down Knows every had all level name found steady leads kind text keeps stays (gone some is part) =
-    absurd (entry_down Knows level.every level.path name.items found some steady leads kind text keeps is)
+    → Knows (Excludes name.items false) → Knows (Elsewhere (path_in level.path name.items) false) → IsGoneTo Knows search had all level name
+    → WasEntered Knows search false (path_in level.path name.items) had ⊎ SomeUnread all
+went_down Knows search had all level name found steady leads kind text keeps stays (gone_down some deep is enters part grows) =
+    below_had Knows search (path_in level.path name.items) some all deep had steady stays enters part grows
+went_down Knows search had all level name found steady leads kind text keeps stays (gone some is part) =
+    absurd (entry_down Knows level.search level.path name.items found some steady leads kind text keeps is)
 
 -- each directory below was entered
-pub below_entered : (Knows : Fact → Type 0) (every : Bool) (top : List ℕ) (had start : List Level) (all first : List Visit)
-    → IsSteady Knows → IsEntered Knows every true top first start → IsPartOf first all → IsWalked Knows every start had all
+pub below_entered : (Knows : Fact → Type 0) (search : Search) (top : List ℕ) (had start : List Level) (all first : List Visit)
+    → IsSteady Knows → IsEntered Knows search true top first start → IsPartOf first all → IsWalked Knows search start had all
     → (named : Bool) (directory : List ℕ) → IsBelow Knows top named directory
-    → WasEntered Knows every named directory had ⊎ SomeUnread all
-below_entered Knows every top had start all first steady enters part walk _ _ itself =
-    level_had Knows every true top first all start had enters part walk.starts
-below_entered Knows every top had start all first steady enters part walk _ _ (deeper named directory name found under has leads kind stays) =
-    elim (below_entered Knows every top had start all first steady enters part walk named directory under) [
+    → WasEntered Knows search named directory had ⊎ SomeUnread all
+below_entered Knows search top had start all first steady enters part walk _ _ itself =
+    level_had Knows search true top first all start had enters part walk.starts
+below_entered Knows search top had start all first steady enters part walk _ _ (deeper named directory name found under has leads kind stays) =
+    elim (below_entered Knows search top had start all first steady enters part walk named directory under) [
       | inr unread_one ↦ inr unread_one
       | inl was ↦
-          let it = name_had Knows every named directory name had steady was has
-          (directory_wanted Knows (every_in every directory) directory name found steady has.no_dots has.text leads kind) in
+          let it = name_had Knows search named directory name had steady was has
+          (directory_wanted Knows (selects_every (search_in search directory)) directory name found steady has.no_dots has.text leads kind) in
           let goes = walk.names was.level was.is_had it.0 it.1.1 in
           let path : path_in was.level.path it.0.items ≡ path_in directory name =
           ap (λ (p : List ℕ). path_in p it.0.items) was.path_is ∙ ap (λ (n : List ℕ). path_in directory n) it.1.0 in
@@ -310,8 +312,8 @@ below_entered Knows every top had start all first steady enters part walk _ _ (d
           let keeps : Knows (Excludes it.0.items false) = subst (λ (n : List ℕ). Knows (Excludes n false)) (sym it.1.0) has.not_excluded in
           let stays_there : Knows (Elsewhere (path_in was.level.path it.0.items) false) =
           subst (λ (p : List ℕ). Knows (Elsewhere p false)) (sym path) stays in
-          subst (λ (p : List ℕ). WasEntered Knows every false p had ⊎ SomeUnread all) path
-          (went_down Knows every had all was.level it.0 found steady leads_there kind text keeps stays_there goes)
+          subst (λ (p : List ℕ). WasEntered Knows search false p had ⊎ SomeUnread all) path
+          (went_down Knows search had all was.level it.0 found steady leads_there kind text keeps stays_there goes)
     ]
 
 -- ---- a file
@@ -333,103 +335,103 @@ leads_here Knows path file looked steady looks (linked link found kind_is follow
 visit_of_more : (path : List ℕ) (some all : List Visit) → IsPartOf some all → SomeVisit path some → SomeVisit path all
 visit_of_more path some all part visit = (visit.0, (part visit.0 visit.1.0, visit.1.1))
 
-entry_visit : (Knows : Fact → Type 0) (every : Bool) (path name : List ℕ) (file : Found) (visits : List Visit)
+entry_visit : (Knows : Fact → Type 0) (search : Search) (path name : List ℕ) (file : Found) (visits : List Visit)
     → IsSteady Knows → LeadsToFile Knows (path_in path name) file → file.kind ≡ kinds.File → IsUtf8 name
-    → IsSelected Knows (path_in path name) file (selection_of every name) → Knows (Excludes name false)
-    → IsEntry Knows every path name false visits → SomeVisit (path_in path name) visits
-entry_visit Knows every path name file visits steady leads kind text selects keeps (excluded leaves down is) =
+    → IsSelected Knows (path_in path name) file (selection_of (selects_every search) name) → Knows (Excludes name false)
+    → IsEntry Knows search path name false visits → SomeVisit (path_in path name) visits
+entry_visit Knows search path name file visits steady leads kind text selects keeps (excluded leaves down is) =
     absurd (not_at_once Knows name steady leaves keeps)
-entry_visit Knows every path name file visits steady leads kind text selects keeps (no_text kept bad down is) = absurd (bad text)
-entry_visit Knows every path name file visits steady leads kind text selects keeps (not_selected kept utf8 never down is) = absurd (cc)
-entry_visit Knows every path name file visits steady leads kind text selects keeps (below found kept utf8 never looked dir down is) =
+entry_visit Knows search path name file visits steady leads kind text selects keeps (no_text kept bad down is) = absurd (bad text)
+entry_visit Knows search path name file visits steady leads kind text selects keeps (not_selected kept utf8 never down is) = absurd (cc)
+entry_visit Knows search path name file visits steady leads kind text selects keeps (below found kept utf8 never looked dir down is) =
     absurd (cc)
-entry_visit Knows every path name file visits steady leads kind text selects keeps
+entry_visit Knows search path name file visits steady leads kind text selects keeps
     (here looked target kept utf8 never looks dir leads_to down is) =
-    target_visit Knows (path_in path name) (selection_of every name) (is_expected path name) file target visits steady
+    target_visit Knows search (path_in path name) (selection_of (selects_every search) name) (is_expected path name) file target visits steady
     (target_is Knows (path_in path name) looked target file steady looks leads kind leads_to) kind selects is
 
-not_down : (Knows : Fact → Type 0) (every : Bool) (path name : List ℕ) (file : Found) (visits : List Visit)
+not_down : (Knows : Fact → Type 0) (search : Search) (path name : List ℕ) (file : Found) (visits : List Visit)
     → IsSteady Knows → LeadsToFile Knows (path_in path name) file → file.kind ≡ kinds.File → IsUtf8 name
-    → IsSelected Knows (path_in path name) file (selection_of every name)
-    → IsEntry Knows every path name true visits → ⊥
-not_down Knows every path name file visits steady leads kind text selects (excluded leaves down is) = cc
-not_down Knows every path name file visits steady leads kind text selects (no_text kept bad down is) = bad text
-not_down Knows every path name file visits steady leads kind text selects (not_selected kept utf8 never down is) =
-    not_both (is_never (selection_of every name)) never (not_never Knows (path_in path name) file (selection_of every name) selects)
-not_down Knows every path name file visits steady leads kind text selects (below looked kept utf8 never looks dir down is) =
+    → IsSelected Knows (path_in path name) file (selection_of (selects_every search) name)
+    → IsEntry Knows search path name true visits → ⊥
+not_down Knows search path name file visits steady leads kind text selects (excluded leaves down is) = cc
+not_down Knows search path name file visits steady leads kind text selects (no_text kept bad down is) = bad text
+not_down Knows search path name file visits steady leads kind text selects (not_selected kept utf8 never down is) =
+    not_both (is_never (selection_of (selects_every search) name)) never (not_never Knows (path_in path name) file (selection_of (selects_every search) name) selects)
+not_down Knows search path name file visits steady leads kind text selects (below looked kept utf8 never looks dir down is) =
     not_both (is_directory looked) dir (leads_here Knows (path_in path name) file looked steady looks leads kind)
-not_down Knows every path name file visits steady leads kind text selects (here looked target kept utf8 never looks dir leads_to down is) =
+not_down Knows search path name file visits steady leads kind text selects (here looked target kept utf8 never looks dir leads_to down is) =
     cc
 
-file_gone : (Knows : Fact → Type 0) (every : Bool) (had : List Level) (all : List Visit) (level : Level) (name : Vec ℕ) (file : Found)
+file_gone : (Knows : Fact → Type 0) (search : Search) (had : List Level) (all : List Visit) (level : Level) (name : Vec ℕ) (file : Found)
     → IsSteady Knows → LeadsToFile Knows (path_in level.path name.items) file → file.kind ≡ kinds.File → IsUtf8 name.items
-    → IsSelected Knows (path_in level.path name.items) file (selection_of level.every name.items) → Knows (Excludes name.items false)
-    → IsGoneTo Knows every had all level name → SomeVisit (path_in level.path name.items) all
-file_gone Knows every had all level name file steady leads kind text selects keeps (gone some is part) =
+    → IsSelected Knows (path_in level.path name.items) file (selection_of (selects_every level.search) name.items) → Knows (Excludes name.items false)
+    → IsGoneTo Knows search had all level name → SomeVisit (path_in level.path name.items) all
+file_gone Knows search had all level name file steady leads kind text selects keeps (gone some is part) =
     visit_of_more (path_in level.path name.items) some all part
-    (entry_visit Knows level.every level.path name.items file some steady leads kind text selects keeps is)
-file_gone Knows every had all level name file steady leads kind text selects keeps (gone_down some deep is enters part grows) =
-    absurd (not_down Knows level.every level.path name.items file [] steady leads kind text selects is)
+    (entry_visit Knows level.search level.path name.items file some steady leads kind text selects keeps is)
+file_gone Knows search had all level name file steady leads kind text selects keeps (gone_down some deep is enters part grows) =
+    absurd (not_down Knows level.search level.path name.items file [] steady leads kind text selects is)
 
-gone_more : (Knows : Fact → Type 0) (every : Bool) (had : List Level) (some all : List Visit) (level : Level) (name : Vec ℕ)
-    → IsPartOf some all → IsGoneTo Knows every had some level name → IsGoneTo Knows every had all level name
-gone_more Knows every had some all level name part (gone visits is there) = gone visits is (λ x is_x. part x (there x is_x))
-gone_more Knows every had some all level name part (gone_down visits deep is enters there grows) =
+gone_more : (Knows : Fact → Type 0) (search : Search) (had : List Level) (some all : List Visit) (level : Level) (name : Vec ℕ)
+    → IsPartOf some all → IsGoneTo Knows search had some level name → IsGoneTo Knows search had all level name
+gone_more Knows search had some all level name part (gone visits is there) = gone visits is (λ x is_x. part x (there x is_x))
+gone_more Knows search had some all level name part (gone_down visits deep is enters there grows) =
     gone_down visits deep is enters (λ x is_x. part x (there x is_x)) grows
 
-walked_more : (Knows : Fact → Type 0) (every : Bool) (start had : List Level) (some all : List Visit) → IsPartOf some all
-    → IsWalked Knows every start had some → IsWalked Knows every start had all
-walked_more Knows every start had some all part walk = record {
+walked_more : (Knows : Fact → Type 0) (search : Search) (start had : List Level) (some all : List Visit) → IsPartOf some all
+    → IsWalked Knows search start had some → IsWalked Knows search start had all
+walked_more Knows search start had some all part walk = record {
   starts = walk.starts;
-  names = λ level is_level name is_name. gone_more Knows every had some all level name part (walk.names level is_level name is_name);
+  names = λ level is_level name is_name. gone_more Knows search had some all level name part (walk.names level is_level name is_name);
 }
 
-file_in_walk : (Knows : Fact → Type 0) (every : Bool) (top path : List ℕ) (start : List Level) (count : ℕ) (first rest all : List Visit)
-    → IsSteady Knows → IsEntered Knows every true top first start → Turns Knows every start count [] rest
-    → IsPartOf first all → IsPartOf rest all → IsFileBelow Knows every top path → SomeVisit path all ⊎ SomeUnread all
-file_in_walk Knows every top path start count first rest all steady enters turns first_part rest_part file =
-    let covers = walk_covers Knows every start count rest turns in
-    let walk = walked_more Knows every start covers.0 rest all rest_part covers.1 in
-    elim (below_entered Knows every top covers.0 start all first steady enters first_part walk file.named file.directory file.below) [
+file_in_walk : (Knows : Fact → Type 0) (search : Search) (top path : List ℕ) (start : List Level) (count : ℕ) (first rest all : List Visit)
+    → IsSteady Knows → IsEntered Knows search true top first start → Turns Knows search start count [] rest
+    → IsPartOf first all → IsPartOf rest all → IsFileBelow Knows search top path → SomeVisit path all ⊎ SomeUnread all
+file_in_walk Knows search top path start count first rest all steady enters turns first_part rest_part file =
+    let covers = walk_covers Knows search start count rest turns in
+    let walk = walked_more Knows search start covers.0 rest all rest_part covers.1 in
+    elim (below_entered Knows search top covers.0 start all first steady enters first_part walk file.named file.directory file.below) [
       | inr unread_one ↦ inr unread_one
       | inl was ↦
-          let chosen = not_never Knows path file.file (selection_of (every_in every file.directory) file.name) file.selected in
-          let it = name_had Knows every file.named file.directory file.name covers.0 steady was file.has_name
-          (selected_wanted Knows (every_in every file.directory) file.directory file.name file.has_name.no_dots chosen) in
+          let chosen = not_never Knows path file.file (selection_of (selects_every (search_in search file.directory)) file.name) file.selected in
+          let it = name_had Knows search file.named file.directory file.name covers.0 steady was file.has_name
+          (selected_wanted Knows (selects_every (search_in search file.directory)) file.directory file.name file.has_name.no_dots chosen) in
           let goes = walk.names was.level was.is_had it.0 it.1.1 in
           let here : path ≡ path_in was.level.path it.0.items =
           file.path_is ∙ ap (λ (n : List ℕ). path_in file.directory n) (sym it.1.0)
           ∙ ap (λ (p : List ℕ). path_in p it.0.items) (sym was.path_is) in
-          let selection : selection_of (every_in every file.directory) file.name ≡ selection_of was.level.every it.0.items =
-          ap (λ (n : List ℕ). selection_of (every_in every file.directory) n) (sym it.1.0)
-          ∙ ap (λ (e : Bool). selection_of e it.0.items) (sym was.every_is) in
+          let selection : selection_of (selects_every (search_in search file.directory)) file.name ≡ selection_of (selects_every was.level.search) it.0.items =
+          ap (λ (n : List ℕ). selection_of (selects_every (search_in search file.directory)) n) (sym it.1.0)
+          ∙ ap (λ (e : Search). selection_of (selects_every e) it.0.items) (sym was.search_is) in
           let leads : LeadsToFile Knows (path_in was.level.path it.0.items) file.file =
           subst (λ (p : List ℕ). LeadsToFile Knows p file.file) here file.leads in
-          let selects : IsSelected Knows (path_in was.level.path it.0.items) file.file (selection_of was.level.every it.0.items) =
+          let selects : IsSelected Knows (path_in was.level.path it.0.items) file.file (selection_of (selects_every was.level.search) it.0.items) =
           subst (λ (s : Selection). IsSelected Knows (path_in was.level.path it.0.items) file.file s) selection
-          (subst (λ (p : List ℕ). IsSelected Knows p file.file (selection_of (every_in every file.directory) file.name)) here file.selected) in
+          (subst (λ (p : List ℕ). IsSelected Knows p file.file (selection_of (selects_every (search_in search file.directory)) file.name)) here file.selected) in
           let text : IsUtf8 it.0.items = subst (λ (n : List ℕ). IsUtf8 n) (sym it.1.0) file.has_name.text in
           let keeps : Knows (Excludes it.0.items false) =
           subst (λ (n : List ℕ). Knows (Excludes n false)) (sym it.1.0) file.has_name.not_excluded in
           inl (subst (λ (p : List ℕ). SomeVisit p all) (sym here)
-          (file_gone Knows every covers.0 all was.level it.0 file.file steady leads file.is_file text selects keeps goes))
+          (file_gone Knows search covers.0 all was.level it.0 file.file steady leads file.is_file text selects keeps goes))
     ]
 
 -- ---- the law
 
-pub file_visited : (Knows : Fact → Type 0) (every : Bool) (top path : List ℕ) (visits : List Visit) → IsSteady Knows
-    → IsDirectory Knows every true top visits → IsFileBelow Knows every top path → SomeVisit path visits ⊎ SomeUnread visits
-file_visited Knows every top path visits steady (before cut is) file = absurd (cc)
-file_visited Knows every top path visits steady (stopped first rest start now count cut enters turns is) file = absurd (cc)
-file_visited Knows every top path visits steady (walked first rest start count enters turns is) file =
+pub file_visited : (Knows : Fact → Type 0) (search : Search) (top path : List ℕ) (visits : List Visit) → IsSteady Knows
+    → IsDirectory Knows search true top visits → IsFileBelow Knows search top path → SomeVisit path visits ⊎ SomeUnread visits
+file_visited Knows search top path visits steady (before cut is) file = absurd (cc)
+file_visited Knows search top path visits steady (stopped first rest start now count cut enters turns is) file = absurd (cc)
+file_visited Knows search top path visits steady (walked first rest start count enters turns is) file =
     let met : IsPartOf (first ++ rest) visits = λ x is_x.
     subst (λ (v : List Visit). Contains v x) (sym is) (Contains-append_left (first ++ rest) _ x is_x) in
-    file_in_walk Knows every top path start count first rest visits steady enters turns
+    file_in_walk Knows search top path start count first rest visits steady enters turns
     (λ x is_x. met x (Contains-append_left first rest x is_x)) (λ x is_x. met x (Contains-append_right first rest x is_x)) file
-file_visited Knows every top path visits steady (endless first rest start now count enters turns most is) file =
+file_visited Knows search top path visits steady (endless first rest start now count enters turns most is) file =
     let one : Visit = Audited None (own_name top) (Err refusals.Read) in
     inr (
-      top,
+      own_name top,
       refusals.Read,
       subst (λ (v : List Visit). Contains v one) (sym is)
           (Contains-append_right (first ++ rest) (refused top refusals.Read) one (at_head one [])),

@@ -1,5 +1,5 @@
 -- The printed output is sent.
-use Rattle.std.proofs.Common.{ℕ, List, [], Option, Result, Ok, Err, subst}
+use Rattle.std.proofs.Common.{ℕ, List, [], Result, Ok, Err, subst}
 use Rattle.std.proofs.lemmas.List.{append-nil}
 use Rattle.run_faults.specs.RunFault.{RunFault}
 use Rattle.run_output.specs.Carries.{Carries}

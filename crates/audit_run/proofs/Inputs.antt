@@ -8,10 +8,11 @@ use Rattle.std.specs.Result.{result_err}
 use Rattle.std.specs.Prelude.{is_ok}
 use Rattle.audit_run.specs.Fact.{Fact}
 use Rattle.audit_run.specs.Named.{Each, IsOnList, IsOnNames, before_name, names_of, names_to, none}
-use Rattle.audit_run.specs.Visits.{AuditsBy, Begun, Goes, Meets, State, Took, Visit, Went, is_whole}
+use Rattle.audit_run.specs.Visits.{AuditsBy, Begun, Goes, State, Took, Visit, Went, is_whole}
 use Rattle.audit_run.specs.ZeroEnded.{Gives, Unread, most_bytes, names_after}
 use Rattle.audit_run.specs.declared.stop.Stop.{Stop}
 use Rattle.audit_run.specs.declared.stop.Stop.TheVariants as stops
+use Rattle.audit_run.specs.declared.search.Search.{Search}
 use Rattle.audit_run.proofs.Auditing.{by_then, nothing_begun, nothing_met}
 use Rattle.audit_run.proofs.Rows.{each_cut, each_one, each_then}
 use Rattle.audit_run.proofs.ZeroEnded.{gives_last, gives_none, gives_then, of_front, too_many_came, whole_name}
@@ -53,23 +54,23 @@ no_front name last is none_there =
 -- ---- a reader of names
 
 -- These names of a reader were audited, up to where the audit stopped, and this front of another one came.
-pub record HasListed (Knows : Fact → Type 0) (every whole : Bool) (begun now : Unread) (front : List ℕ) (stop : Option Stop)
+pub record HasListed (Knows : Fact → Type 0) (search : Search) (whole : Bool) (begun now : Unread) (front : List ℕ) (stop : Option Stop)
     (old new : State) : Type 0 where
   pub names : List (List ℕ)
   pub visits : List Visit
   pub gives : Gives begun now names front
-  pub is : Each (IsOnList Knows every) whole names visits
+  pub is : Each (IsOnList Knows search) whole names visits
   pub audits : AuditsBy visits stop old new
 
-pub none_listed : (Knows : Fact → Type 0) (every : Bool) (begun : Unread) (now : State)
-    → HasListed Knows every true begun begun [] None now now
-none_listed Knows every begun now =
+pub none_listed : (Knows : Fact → Type 0) (search : Search) (begun : Unread) (now : State)
+    → HasListed Knows search true begun begun [] None now now
+none_listed Knows search begun now =
     record { names = []; visits = []; gives = gives_none begun; is = none; audits = (nothing_met now).audits }
 
 -- an allocation failed
-pub out_listed : (Knows : Fact → Type 0) (every : Bool) (begun mid : Unread) (old now : State)
-    → HasListed Knows every true begun mid [] None old now → HasListed Knows every true begun mid [] (Some stops.NoMemory) old now
-out_listed Knows every begun mid old now was = record {
+pub out_listed : (Knows : Fact → Type 0) (search : Search) (begun mid : Unread) (old now : State)
+    → HasListed Knows search true begun mid [] None old now → HasListed Knows search true begun mid [] (Some stops.NoMemory) old now
+out_listed Knows search begun mid old now was = record {
   names = was.names;
   visits = was.visits;
   gives = was.gives;
@@ -77,85 +78,85 @@ out_listed Knows every begun mid old now was = record {
   audits = by_then_out was.visits old now was.audits;
 }
 
-pub one_listed : (Knows : Fact → Type 0) (every whole : Bool) (begun mid now : Unread) (name : List ℕ) (stop : Option Stop)
-    (more : List Visit) (old then new : State) → HasListed Knows every true begun mid [] None old then → Gives mid now (name ∷ []) []
-    → IsOnList Knows every whole name more → AuditsBy more stop then new → HasListed Knows every whole begun now [] stop old new
-one_listed Knows every whole begun mid now name stop more old then new was gives is audits = record {
+pub one_listed : (Knows : Fact → Type 0) (search : Search) (whole : Bool) (begun mid now : Unread) (name : List ℕ) (stop : Option Stop)
+    (more : List Visit) (old then new : State) → HasListed Knows search true begun mid [] None old then → Gives mid now (name ∷ []) []
+    → IsOnList Knows search whole name more → AuditsBy more stop then new → HasListed Knows search whole begun now [] stop old new
+one_listed Knows search whole begun mid now name stop more old then new was gives is audits = record {
   names = was.names ++ name ∷ [];
   visits = was.visits ++ more;
   gives = gives_then begun mid now was.names (name ∷ []) [] was.gives gives;
-  is = each_then (IsOnList Knows every) whole was.names (name ∷ []) was.visits more was.is
-      (each_one (IsOnList Knows every) whole name more is);
+  is = each_then (IsOnList Knows search) whole was.names (name ∷ []) was.visits more was.is
+      (each_one (IsOnList Knows search) whole name more is);
   audits = by_then was.visits more stop old then new was.audits audits;
 }
 
 -- the audit ends before all names
-pub took_part : (Knows : Fact → Type 0) (every whole : Bool) (begun now : Unread) (front : List ℕ) (result : Result Bool Stop)
-    (old new : State) → is_whole result ≡ false → HasListed Knows every whole begun now front (result_err result) old new
-    → Took (λ result. IsOnNames Knows every (is_whole result) begun.left) result old new
-took_part Knows every whole begun now front result old new part was =
-    let Is = IsOnList Knows every in
+pub took_part : (Knows : Fact → Type 0) (search : Search) (whole : Bool) (begun now : Unread) (front : List ℕ) (result : Result Bool Stop)
+    (old new : State) → is_whole result ≡ false → HasListed Knows search whole begun now front (result_err result) old new
+    → Took (λ result. IsOnNames Knows search (is_whole result) begun.left) result old new
+took_part Knows search whole begun now front result old new part was =
+    let Is = IsOnList Knows search in
     let came = was.gives.came in
     let here : Each Is false (names_after [] came) was.visits =
     rw was.gives.names_are (subst (λ (n : List (List ℕ)). Each Is false n was.visits) (append-nil was.names)
     (each_cut Is whole was.names [] was.visits (λ name. before_name refl refl) was.is)) in
-    let known : IsOnNames Knows every false begun.left was.visits =
+    let known : IsOnNames Knows search false begun.left was.visits =
     of_front (λ bytes. (first rest : List ℕ) × ((bytes ≡ first ++ rest)
     × (Each Is false (names_after [] first) was.visits ⊎ Each Is false (names_of bytes) was.visits)))
     begun.left now.left came was.gives.comes.consumed (λ rest. (came, rest, (refl, inl here))) in
     record { visits = was.visits; is = rw part known; audits = was.audits }
 
 -- it comes to the last name, if no zero byte ends it
-on_all : (Knows : Fact → Type 0) (every whole : Bool) (begun now : Unread) (names : List (List ℕ)) (last : List ℕ) (visits : List Visit)
-    → Gives begun now names last → IsAtEnd now.left → Each (IsOnList Knows every) whole (names ++ names_to last) visits
-    → IsOnNames Knows every whole begun.left visits
-on_all Knows every true begun now names last visits gives end is =
+on_all : (Knows : Fact → Type 0) (search : Search) (whole : Bool) (begun now : Unread) (names : List (List ℕ)) (last : List ℕ) (visits : List Visit)
+    → Gives begun now names last → IsAtEnd now.left → Each (IsOnList Knows search) whole (names ++ names_to last) visits
+    → IsOnNames Knows search whole begun.left visits
+on_all Knows search true begun now names last visits gives end is =
     let all : names_of gives.came ≡ names ++ names_to last = rw (gives.names_are, gives.front_is) refl in
-    Consumes-whole begun.left now.left gives.came (λ bytes. Each (IsOnList Knows every) true (names_of bytes) visits)
+    Consumes-whole begun.left now.left gives.came (λ bytes. Each (IsOnList Knows search) true (names_of bytes) visits)
     gives.comes.consumed end (rw all is)
-on_all Knows every false begun now names last visits gives end is =
+on_all Knows search false begun now names last visits gives end is =
     let all : names_of gives.came ≡ names ++ names_to last = rw (gives.names_are, gives.front_is) refl in
     Consumes-whole begun.left now.left gives.came (λ bytes. (first rest : List ℕ) × ((bytes ≡ first ++ rest)
-    × (Each (IsOnList Knows every) false (names_after [] first) visits ⊎ Each (IsOnList Knows every) false (names_of bytes) visits)))
+    × (Each (IsOnList Knows search) false (names_after [] first) visits ⊎ Each (IsOnList Knows search) false (names_of bytes) visits)))
     gives.comes.consumed end (gives.came, [], (sym (append-nil gives.came), inr (rw all is)))
 
-took_all : (Knows : Fact → Type 0) (every : Bool) (begun mid now : Unread) (last : List ℕ) (more : List Visit)
-    (result : Result Bool Stop) (old then new : State) → HasListed Knows every true begun mid [] None old then → Gives mid now [] last
-    → IsAtEnd now.left → Each (IsOnList Knows every) (is_whole result) (names_to last) more → AuditsBy more (result_err result) then new
-    → Took (λ result. IsOnNames Knows every (is_whole result) begun.left) result old new
-took_all Knows every begun mid now last more result old then new was gives end is audits =
+took_all : (Knows : Fact → Type 0) (search : Search) (begun mid now : Unread) (last : List ℕ) (more : List Visit)
+    (result : Result Bool Stop) (old then new : State) → HasListed Knows search true begun mid [] None old then → Gives mid now [] last
+    → IsAtEnd now.left → Each (IsOnList Knows search) (is_whole result) (names_to last) more → AuditsBy more (result_err result) then new
+    → Took (λ result. IsOnNames Knows search (is_whole result) begun.left) result old new
+took_all Knows search begun mid now last more result old then new was gives end is audits =
     let all = gives_last begun mid now was.names last was.gives gives in
-    let both = each_then (IsOnList Knows every) (is_whole result) was.names (names_to last) was.visits more was.is is in
+    let both = each_then (IsOnList Knows search) (is_whole result) was.names (names_to last) was.visits more was.is is in
     record {
       visits = was.visits ++ more;
-      is = on_all Knows every (is_whole result) begun now was.names last (was.visits ++ more) all end both;
+      is = on_all Knows search (is_whole result) begun now was.names last (was.visits ++ more) all end both;
       audits = by_then was.visits more (result_err result) old then new was.audits audits;
     }
 
 -- no last name came
-pub took_none : (Knows : Fact → Type 0) (every : Bool) (begun mid now : Unread) (name last : List ℕ) (old then : State)
-    → HasListed Knows every true begun mid [] None old then → Gives mid now [] last → IsAtEnd now.left → name ≡ take 4097 last
-    → length name ≡ 0 → Took (λ result. IsOnNames Knows every (is_whole result) begun.left) (Ok true) old then
-took_none Knows every begun mid now name last old then was gives end is nothing =
-    took_all Knows every begun mid now last [] (Ok true) old then then was gives end
-    (subst (λ (n : List (List ℕ)). Each (IsOnList Knows every) true n []) (sym (no_front name last is nothing)) none)
+pub took_none : (Knows : Fact → Type 0) (search : Search) (begun mid now : Unread) (name last : List ℕ) (old then : State)
+    → HasListed Knows search true begun mid [] None old then → Gives mid now [] last → IsAtEnd now.left → name ≡ take 4097 last
+    → length name ≡ 0 → Took (λ result. IsOnNames Knows search (is_whole result) begun.left) (Ok true) old then
+took_none Knows search begun mid now name last old then was gives end is nothing =
+    took_all Knows search begun mid now last [] (Ok true) old then then was gives end
+    (subst (λ (n : List (List ℕ)). Each (IsOnList Knows search) true n []) (sym (no_front name last is nothing)) none)
     (nothing_met then).audits
 
 -- the last name came, without a zero byte
-pub took_last : (Knows : Fact → Type 0) (every : Bool) (begun mid now : Unread) (name last : List ℕ) (more : List Visit)
-    (result : Result Bool Stop) (old then new : State) → HasListed Knows every true begun mid [] None old then → Gives mid now [] last
-    → IsAtEnd now.left → name ≡ take 4097 last → (length name ≡ 0 → ⊥) → IsOnList Knows every (is_whole result) last more
-    → AuditsBy more (result_err result) then new → Took (λ result. IsOnNames Knows every (is_whole result) begun.left) result old new
-took_last Knows every begun mid now name last more result old then new was gives end is some goes audits =
-    took_all Knows every begun mid now last more result old then new was gives end
-    (subst (λ (n : List (List ℕ)). Each (IsOnList Knows every) (is_whole result) n more) (sym (some_front name last is some))
-    (each_one (IsOnList Knows every) (is_whole result) last more goes)) audits
+pub took_last : (Knows : Fact → Type 0) (search : Search) (begun mid now : Unread) (name last : List ℕ) (more : List Visit)
+    (result : Result Bool Stop) (old then new : State) → HasListed Knows search true begun mid [] None old then → Gives mid now [] last
+    → IsAtEnd now.left → name ≡ take 4097 last → (length name ≡ 0 → ⊥) → IsOnList Knows search (is_whole result) last more
+    → AuditsBy more (result_err result) then new → Took (λ result. IsOnNames Knows search (is_whole result) begun.left) result old new
+took_last Knows search begun mid now name last more result old then new was gives end is some goes audits =
+    took_all Knows search begun mid now last more result old then new was gives end
+    (subst (λ (n : List (List ℕ)). Each (IsOnList Knows search) (is_whole result) n more) (sym (some_front name last is some))
+    (each_one (IsOnList Knows search) (is_whole result) last more goes)) audits
 
 -- as many bytes came as are read
-pub broken_listed : (Knows : Fact → Type 0) (every : Bool) (begun mid now : Unread) (front : List ℕ) (old then : State)
-    → HasListed Knows every true begun mid [] None old then → Gives mid now [] front → now.room ≡ 0 → begun.room ≡ most_bytes
+pub broken_listed : (Knows : Fact → Type 0) (search : Search) (begun mid now : Unread) (front : List ℕ) (old then : State)
+    → HasListed Knows search true begun mid [] None old then → Gives mid now [] front → now.room ≡ 0 → begun.room ≡ most_bytes
     → IfSome begun.left (λ bytes. most_bytes ≤ length bytes)
-broken_listed Knows every begun mid now front old then was gives none_left all =
+broken_listed Knows search begun mid now front old then was gives none_left all =
     let both = gives_last begun mid now was.names front was.gives gives in
     too_many_came begun now was.names front both none_left all
 

@@ -1,7 +1,6 @@
 -- The end of a whole audit.
 use Rattle.std.proofs.Common.{◌≡◌, ℕ, Bool, true, false, List, [], ◌∷◌, ◌++◌, codes, Option, Some, None, Result}
 use Rattle.std.proofs.Common.{refl, sym, ap, subst, ◌∙◌, append_assoc}
-use Rattle.std.specs.Prelude.{IsTrue, not, ◌↔◌}
 use Rattle.std.specs.Result.{result_err}
 use Rattle.run_faults.specs.RunFault.{RunFault, EndedBy, ByInput, ByMemory, ByOutput, ended_by}
 use Rattle.run_output.specs.Carries.{Carries, IsEnded, Reaches}
@@ -10,6 +9,7 @@ use Rattle.run_output.specs.Printer.{HasSaid, Printer}
 use Rattle.run_output.specs.Run.{Answered, Item, Passed, Stopped, outcome_of}
 use Rattle.krl_types.specs.Subject.{Subject}
 use Rattle.audit_text.specs.Answer.{Answer}
+use Rattle.audit_text.specs.Place.{label_now}
 use Rattle.krl_audit.specs.Audit.{EndsAudit, IsUsable, JudgesAs, answers_but}
 use Rattle.krl_audit.proofs.Canaries.{answers_as_meant, answers_of}
 use Rattle.audit_run.specs.declared.summary.Summary.{Summary}
@@ -48,16 +48,21 @@ said_so order answers visits stop before old new shown audits said =
 
 pub ended_all : (Knows : Fact → Type 0) (order : Order) (queried : Queried) (readers : Readers)
     (answers : Subject → Answer) (before : Option (List ℕ)) (visits : List Visit) (result : Result (Unit {0}) RunFault) (old mid new : State)
-    → AreMet Knows order.every_file true order.sought.now readers order.paths.now visits → Audits answers visits None old mid
-    → Carries (last_items order.list.now queried mid.tally) result mid.printer new.printer → new.tally ≡ mid.tally
+    → AreMet Knows order.search true order.sought.now readers order.paths.now visits → Audits answers visits None old mid
+    → Carries (last_items (label_now mid.judge.shown.label) order.list.now queried mid.tally) result mid.printer new.printer
+    → mid.judge ≡ old.judge → new.tally ≡ mid.tally
     → old.judge.shown ≡ order.shown → HasSaid before [] old.printer
     → Ended Knows order queried readers answers before (result_err result) old new
-ended_all Knows order queried readers answers before visits result old mid new given audits carries same shown said =
+ended_all Knows order queried readers answers before visits result old mid new given audits carries judge same shown said =
     let items = visits_items answers order.shown visits in
     let has : HasSaid before items mid.printer = said_so order answers visits None before old mid shown audits said in
-    let last : Carries (last_items order.list.now queried new.tally) result mid.printer new.printer =
-    subst (λ (t : Tally). Carries (last_items order.list.now queried t) result mid.printer new.printer) (sym same) carries in (
-      items ++ last_items order.list.now queried new.tally,
+    let label = label_now order.shown.label in
+    let kept : mid.judge.shown ≡ order.shown = ap (λ (j : Judge). j.shown) judge ∙ shown in
+    let labelled : Carries (last_items label order.list.now queried mid.tally) result mid.printer new.printer =
+    subst (λ (s : Shown). Carries (last_items (label_now s.label) order.list.now queried mid.tally) result mid.printer new.printer) kept carries in
+    let last : Carries (last_items label order.list.now queried new.tally) result mid.printer new.printer =
+    subst (λ (t : Tally). Carries (last_items label order.list.now queried t) result mid.printer new.printer) (sym same) labelled in (
+      items ++ last_items label order.list.now queried new.tally,
       (
         record {
           visits = visits;
@@ -78,7 +83,7 @@ some_is x is = cc
 -- an audit was stopped
 pub ended_stopped : (Knows : Fact → Type 0) (order : Order) (queried : Queried) (readers : Readers)
     (answers : Subject → Answer) (before : Option (List ℕ)) (visits : List Visit) (stop : Stop) (old new : State)
-    → AreMet Knows order.every_file false order.sought.now readers order.paths.now visits → Audits answers visits (Some stop) old new
+    → AreMet Knows order.search false order.sought.now readers order.paths.now visits → Audits answers visits (Some stop) old new
     → new.judge ≡ old.judge → old.judge.shown ≡ order.shown → HasSaid before [] old.printer
     → Ended Knows order queried readers answers before (stop_fault stop) old new
 ended_stopped Knows order queried readers answers before visits stops.Revoked old new given audits judge shown said =
@@ -141,7 +146,7 @@ ended_stopped Knows order queried readers answers before visits (stops.Lost coun
 -- names could not be read to their end
 pub ended_unread : (Knows : Fact → Type 0) (order : Order) (queried : Queried) (readers : Readers)
     (answers : Subject → Answer) (before : Option (List ℕ)) (visits : List Visit) (old new : State)
-    → AreCutOff Knows order.every_file order.sought.now readers visits → Audits answers visits None old new
+    → AreCutOff Knows order.search order.sought.now readers visits → Audits answers visits None old new
     → old.judge.shown ≡ order.shown → HasSaid before [] old.printer
     → Ended Knows order queried readers answers before (Some (names_fault order.names_from.now)) old new
 ended_unread Knows order queried readers answers before visits old new unread audits shown said =
@@ -152,7 +157,7 @@ ended_unread Knows order queried readers answers before visits old new unread au
         record {
           visits = visits;
           whole = false;
-          met = cut_off_met Knows order.every_file order.sought.now readers order.paths.now visits unread;
+          met = cut_off_met Knows order.search order.sought.now readers order.paths.now visits unread;
           timely = audits.timely;
           quiet = λ silent. quiet_stopped answers old.tally visits
               (audits.quiet (ap (λ (s : Shown). s.revoked) shown ∙ silent));

@@ -8,14 +8,15 @@ use Rattle.audit_run.specs.Paths.{path_in}
 use Rattle.audit_run.specs.declared.selection.Selection.{Selection}
 use Rattle.audit_run.specs.declared.selection.Selection.TheVariants as selections
 use Rattle.audit_lines.specs.declared.why.Refusal.{Refusal}
-use Rattle.krl_audit.specs.Audit.{own_name}
+use Rattle.krl_audit.specs.Audit.{FileName}
 use Rattle.audit_run.specs.Fact.{Elsewhere, Excludes, Fact, Leads, Lists, OpenFile, Opens}
 use Rattle.audit_run.specs.Names.{is_dots}
 use Rattle.audit_run.specs.Reading.{front_of}
+use Rattle.audit_run.specs.Search.{search_in, selects_every}
 use Rattle.audit_run.specs.Visits.{Audited, Same, Skipped, Visit}
-use Rattle.audit_run.specs.Walk.{every_in}
 use Rattle.audit_run.specs.declared.file_kind.FileKind.TheVariants as kinds
 use Rattle.audit_run.specs.declared.file_kind.Found.{Found}
+use Rattle.audit_run.specs.declared.search.Search.{Search}
 use Rattle.audit_run.specs.ZeroEnded.{names_after}
 
 -- A tree that has one answer to each question.
@@ -69,17 +70,19 @@ pub data IsSelected (Knows : Fact → Type 0) (path : List ℕ) (file : Found)
       → IsSelected Knows path file selections.IfPrivate
 
 -- A path is that of a file that is wanted, in a directory that is below one that is named.
-pub record IsFileBelow (Knows : Fact → Type 0) (every : Bool) (top path : List ℕ) : Type 0 where
-  pub named : Bool
-  pub directory : List ℕ
-  pub name : List ℕ
-  pub file : Found
-  pub path_is : path ≡ path_in directory name
-  pub below : IsBelow Knows top named directory
-  pub has_name : HasName Knows named directory name
-  pub leads : LeadsToFile Knows path file
-  pub is_file : file.kind ≡ kinds.File
-  pub selected : IsSelected Knows path file (selection_of (every_in every directory) name)
+pub record IsFileBelow (Knows : Fact → Type 0) (search : Search) (top path : List ℕ) : Type 0
+  where
+    pub named : Bool
+    pub directory : List ℕ
+    pub name : List ℕ
+    pub file : Found
+    pub path_is : path ≡ path_in directory name
+    pub below : IsBelow Knows top named directory
+    pub has_name : HasName Knows named directory name
+    pub leads : LeadsToFile Knows path file
+    pub is_file : file.kind ≡ kinds.File
+    pub selected : IsSelected Knows path file
+        (selection_of (selects_every (search_in search directory)) name)
 
 -- ---- visits
 
@@ -95,5 +98,4 @@ SomeVisit path visits = (visit : Visit) × (Contains visits visit × IsVisitOf p
 -- something is reported as unread
 abbrev pub SomeUnread : List Visit → Type 0
 SomeUnread visits =
-    (name : List ℕ) × (refusal : Refusal)
-    × Contains visits (Audited None (own_name name) (Err refusal))
+    (name : FileName) × (refusal : Refusal) × Contains visits (Audited None name (Err refusal))

@@ -13,15 +13,17 @@ use Rattle.audit_lines.specs.declared.front.Fronts.{Fronts}
 use Rattle.audit_lines.specs.declared.front.Fronts.TheVariants as fronts
 use Rattle.audit_lines.specs.declared.why.Refusal.{Refusal}
 use Rattle.audit_lines.specs.declared.why.Refusal.TheVariants as refusals
-use Rattle.krl_audit.specs.Audit.{FileName, own_name}
+use Rattle.krl_audit.specs.Audit.{FileName}
 use Rattle.audit_run.specs.Fact.{Excludes, Fact, Fails, Leads, OpenFile, Opens}
 use Rattle.audit_run.specs.Names.{is_directory, is_irregular, is_link, is_never}
 use Rattle.audit_run.specs.Reading.{IsContent, front_of}
+use Rattle.audit_run.specs.Search.{name_in, selects_every}
 use Rattle.audit_run.specs.Visits.{Audited, Same, Skipped, Visit, refused}
 use Rattle.audit_run.specs.declared.file_kind.FileKind.TheVariants as kinds
 use Rattle.audit_run.specs.declared.file_kind.Found.{Found}
 use Rattle.audit_run.specs.declared.file_kind.Identity.{Identity}
 use Rattle.audit_run.specs.declared.files.Skip.TheVariants as skips
+use Rattle.audit_run.specs.declared.search.Search.{Search}
 
 -- ---- the key of a file
 
@@ -34,12 +36,13 @@ way_by fronts.Hosts true = 3
 way_by fronts.Options true = 4
 way_by fronts.Either true = 5
 
-abbrev pub way_of : List ℕ → ℕ
-way_of path = way_by (fronts_of path) (is_read_by_lines path)
+-- the same, or that keys are sought anywhere in its lines
+abbrev pub way_of : Option (List ℕ) → ℕ
+way_of None = 6
+way_of (Some path) = way_by (fronts_of path) (is_read_by_lines path)
 
--- A file, and how this name says that it is read: a file with several names is audited once for each
--- of these ways.
-abbrev pub key_of : (read_as : List ℕ) → Identity → List ℕ
+-- A file, and how it is read: a file with several names is audited once for each of these ways.
+abbrev pub key_of : (read_as : Option (List ℕ)) → Identity → List ℕ
 key_of read_as identity =
     identity.device ∷ identity.number ∷ identity.size ∷ identity.changed ∷ identity.nanoseconds
     ∷ way_of read_as ∷ []
@@ -90,9 +93,9 @@ pub data IsTarget (Knows : Fact → Type 0) (path : List ℕ) (looked target : R
       → target ≡ Err refusals.DirectoryLink → IsTarget Knows path looked target
 
 -- this content is audited, or the name is skipped
-abbrev pub audited_if : Bool → List ℕ → Result (List ℕ) Refusal → List Visit
-audited_if true path content = Audited None (own_name path) content ∷ []
-audited_if false path content = Skipped skips.ByName 1 ∷ []
+abbrev pub audited_if : Bool → FileName → Result (List ℕ) Refusal → List Visit
+audited_if true name content = Audited None name content ∷ []
+audited_if false name content = Skipped skips.ByName 1 ∷ []
 
 -- A path leads to these visits, by its target, which is no directory. A file there is read by its
 -- name, or only if it begins as a private key file; and a file is expected there or not.
@@ -122,11 +125,11 @@ pub data VisitsTarget (Knows : Fact → Type 0) (name : FileName) (by_name expec
       → VisitsTarget Knows name by_name expected target visits
   -- the null device, which is an empty file
   null_device : (found : Found) → target ≡ Ok found → found.kind ≡ kinds.Null
-      → visits ≡ audited_if by_name name.shown (Ok [])
+      → visits ≡ audited_if by_name name (Ok [])
       → VisitsTarget Knows name by_name expected target visits
   -- a pipe, a socket or another device
   irregular : (found : Found) → target ≡ Ok found → is_irregular found.kind ≡ true
-      → visits ≡ audited_if expected name.shown (Err refusals.Irregular)
+      → visits ≡ audited_if expected name (Err refusals.Irregular)
       → VisitsTarget Knows name by_name expected target visits
 
 -- ---- a name of a directory
@@ -141,26 +144,27 @@ is_always selections.Never = false
 abbrev pub is_expected : (directory name : List ℕ) → Bool
 is_expected directory name = is_always (selection_of (reads_every directory) name)
 
--- A name of a directory, of which every file is read or not, leads to this: to a directory that is
+-- A name of a directory leads to this by the search in this directory: to a directory that is
 -- entered, or not. A name that the command excludes is counted.
-pub data IsEntry (Knows : Fact → Type 0) (every : Bool) (directory name : List ℕ) (down : Bool)
+pub data IsEntry (Knows : Fact → Type 0) (search : Search) (directory name : List ℕ) (down : Bool)
     (visits : List Visit) : Type 0 where
   excluded : Knows (Excludes name true) → down ≡ false → visits ≡ Skipped skips.Excluded 1 ∷ []
-      → IsEntry Knows every directory name down visits
+      → IsEntry Knows search directory name down visits
   no_text : Knows (Excludes name false) → (IsUtf8 name → ⊥) → down ≡ false
       → visits ≡ refused (visible_bytes false (path_in directory name)) refusals.Open
-      → IsEntry Knows every directory name down visits
+      → IsEntry Knows search directory name down visits
   not_selected : Knows (Excludes name false) → IsUtf8 name
-      → is_never (selection_of every name) ≡ true → down ≡ true → visits ≡ []
-      → IsEntry Knows every directory name down visits
+      → is_never (selection_of (selects_every search) name) ≡ true → down ≡ true → visits ≡ []
+      → IsEntry Knows search directory name down visits
   below : (found : Result Found Refusal) → Knows (Excludes name false) → IsUtf8 name
-      → is_never (selection_of every name) ≡ false
+      → is_never (selection_of (selects_every search) name) ≡ false
       → Knows (Leads (path_in directory name) false found) → is_directory found ≡ true
-      → down ≡ true → visits ≡ [] → IsEntry Knows every directory name down visits
+      → down ≡ true → visits ≡ [] → IsEntry Knows search directory name down visits
   here : (looked target : Result Found Refusal) → Knows (Excludes name false) → IsUtf8 name
-      → is_never (selection_of every name) ≡ false
+      → is_never (selection_of (selects_every search) name) ≡ false
       → Knows (Leads (path_in directory name) false looked) → is_directory looked ≡ false
       → IsTarget Knows (path_in directory name) looked target → down ≡ false
-      → VisitsTarget Knows (own_name (path_in directory name)) (is_always (selection_of every name))
-      (is_expected directory name) target visits
-      → IsEntry Knows every directory name down visits
+      → VisitsTarget Knows (name_in search (path_in directory name))
+      (is_always (selection_of (selects_every search) name)) (is_expected directory name) target
+      visits
+      → IsEntry Knows search directory name down visits

@@ -12,6 +12,7 @@ pub mod Run
 pub mod Options
 pub mod Order
 pub mod Selection
+pub mod Search
 pub mod Paths
 pub mod Progress
 pub mod Summary

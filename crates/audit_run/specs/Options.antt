@@ -16,9 +16,11 @@ form_by true colours = formats.Json
 form_by false true = formats.Colour
 form_by false false = formats.Text
 
--- Nothing is printed with -q, and keys that are not revoked are printed only with -a.
+-- Nothing is printed with -q, and keys that are not revoked are printed only with -a. The label is
+-- printed before each name.
 abbrev pub shown_by : Options → Shown
 shown_by options = record {
+  label = options.label;
   revoked = not options.quiet;
   unread = not options.quiet;
   fine = options.all && not options.quiet;

@@ -4,6 +4,7 @@ use Rattle.std.specs.Borrow.{Bor}
 use Rattle.krl_arguments.specs.declared.task.Audit.{Audit}
 use Rattle.audit_run.specs.declared.order.Loaded.{Loaded}
 use Rattle.audit_run.specs.declared.order.Order.{Order}
+use Rattle.audit_run.specs.Search.{search_of}
 use Rattle.audit_run.specs.Options.{has_colours, shown_by}
 use Rattle.audit_run.specs.declared.options.Terminal.{Terminal}
 
@@ -24,8 +25,9 @@ pub record IsOrder (task : Audit) (loaded : Loaded) (terminal : Terminal) (order
     quiet = task.quiet;
     all = task.all;
     json = task.json;
+    label = task.label;
     colours = has_colours terminal;
   })
-  pub every_file : order.every_file ≡ task.every_file
+  pub search : order.search ≡ search_of task.scan task.every_file
   pub names_from : order.names_from.now ≡ name_or_nothing task.names_from
   pub paths : order.paths.now ≡ task.files.items

@@ -14,6 +14,7 @@ use Rattle.krl_types.specs.Entry.{Entry}
 use Rattle.krl_types.specs.Subject.{Subject}
 use Rattle.krl_entries.specs.Revocations.{Means}
 use Rattle.audit_text.specs.Answer.{Answer}
+use Rattle.audit_text.specs.Place.{label_now}
 use Rattle.krl_audit.specs.Audit.{AreIndexed, EndsAudit, JudgesAs, MeanCanaries, answers_but}
 use Rattle.krl_audit.specs.Done.{done_object}
 use Rattle.audit_run.specs.declared.summary.Summary.{Summary}
@@ -39,6 +40,7 @@ use Rattle.audit_run.specs.declared.run.Audited.{Audited}
 use Rattle.audit_run.specs.declared.run.Audited.TheVariants as ends
 use Rattle.audit_run.specs.declared.order.Order.{Order}
 use Rattle.audit_run.specs.declared.run.Queried.{Queried}
+use Rattle.audit_run.specs.declared.search.Search.{Search}
 use Rattle.audit_run.specs.declared.stop.Stop.{Stop}
 use Rattle.audit_run.specs.declared.stop.Stop.TheVariants as stops
 use Rattle.sshd_files.specs.declared.files.SshdFile.{SshdFile}
@@ -64,79 +66,81 @@ readers_of names_left names_failed names input_left input_failed input = record 
 
 -- First what the names lead to that a reader gives, and then what those lead to that the command
 -- names.
-pub data AreGiven (Knows : Fact → Type 0) (every whole : Bool) (readers : Readers)
+pub data AreGiven (Knows : Fact → Type 0) (search : Search) (whole : Bool) (readers : Readers)
     (paths : List (Bor (List ℕ))) (visits : List Visit) : Type 0 where
   no_list : readers.names ≡ None
-      → AreNamed Knows readers.InputFailed every whole (Some readers.input) paths visits
-      → AreGiven Knows every whole readers paths visits
+      → AreNamed Knows readers.InputFailed search whole (Some readers.input) paths visits
+      → AreGiven Knows search whole readers paths visits
   in_names : (left : Option (List ℕ)) → readers.names ≡ Some left → whole ≡ false
-      → IsOnNames Knows every false left visits → AreGiven Knows every whole readers paths visits
+      → IsOnNames Knows search false left visits → AreGiven Knows search whole readers paths visits
   after_names : (left : Option (List ℕ)) (first rest : List Visit) → readers.names ≡ Some left
-      → IsOnNames Knows every true left first
-      → AreNamed Knows readers.InputFailed every whole (Some readers.input) paths rest
-      → visits ≡ first ++ rest → AreGiven Knows every whole readers paths visits
+      → IsOnNames Knows search true left first
+      → AreNamed Knows readers.InputFailed search whole (Some readers.input) paths rest
+      → visits ≡ first ++ rest → AreGiven Knows search whole readers paths visits
 
 -- A reader gives names, which cannot be read to their end, since it failed or has more bytes than
 -- are read: what the names before lead to.
-pub record AreUnread (Knows : Fact → Type 0) (every : Bool) (readers : Readers)
+pub record AreUnread (Knows : Fact → Type 0) (search : Search) (readers : Readers)
     (visits : List Visit) : Type 0 where
   pub left : Option (List ℕ)
   pub given : readers.names ≡ Some left
   pub broken : IsBroken readers.NamesFailed left
-  pub before : IsOnNames Knows every false left visits
+  pub before : IsOnNames Knows search false left visits
 
 -- all of what is given, or the names of a reader that cannot be read to their end; or the audit was
 -- stopped
-abbrev pub IsGiven : (Fact → Type 0) → (every : Bool) → Readers → List (Bor (List ℕ))
+abbrev pub IsGiven : (Fact → Type 0) → Search → Readers → List (Bor (List ℕ))
     → Result Bool Stop → List Visit → Type 0
-IsGiven Knows every readers paths (Ok true) visits =
-    AreGiven Knows every true readers paths visits
-IsGiven Knows every readers paths (Ok false) visits = AreUnread Knows every readers visits
-IsGiven Knows every readers paths (Err stop) visits =
-    AreGiven Knows every false readers paths visits
+IsGiven Knows search readers paths (Ok true) visits =
+    AreGiven Knows search true readers paths visits
+IsGiven Knows search readers paths (Ok false) visits = AreUnread Knows search readers visits
+IsGiven Knows search readers paths (Err stop) visits =
+    AreGiven Knows search false readers paths visits
 
 -- First the files that sshd reads, and then what is given.
-pub data AreMet (Knows : Fact → Type 0) (every whole : Bool) (sought : List SshdFile)
-    (readers : Readers) (paths : List (Bor (List ℕ))) (visits : List Visit) : Type 0 where
+pub data AreMet (Knows : Fact → Type 0) (search : Search) (whole : Bool)
+    (sought : List SshdFile) (readers : Readers) (paths : List (Bor (List ℕ)))
+    (visits : List Visit) : Type 0 where
   in_sought : whole ≡ false → Each (IsSought Knows) false sought visits
-      → AreMet Knows every whole sought readers paths visits
+      → AreMet Knows search whole sought readers paths visits
   after_sought : (first rest : List Visit) → Each (IsSought Knows) true sought first
-      → AreGiven Knows every whole readers paths rest → visits ≡ first ++ rest
-      → AreMet Knows every whole sought readers paths visits
+      → AreGiven Knows search whole readers paths rest → visits ≡ first ++ rest
+      → AreMet Knows search whole sought readers paths visits
 
 -- The files that sshd reads, and then names that cannot be read to their end.
-pub record AreCutOff (Knows : Fact → Type 0) (every : Bool) (sought : List SshdFile)
+pub record AreCutOff (Knows : Fact → Type 0) (search : Search) (sought : List SshdFile)
     (readers : Readers) (visits : List Visit) : Type 0 where
   pub first : List Visit
   pub rest : List Visit
   pub before : Each (IsSought Knows) true sought first
-  pub unread : AreUnread Knows every readers rest
+  pub unread : AreUnread Knows search readers rest
   pub visits_are : visits ≡ first ++ rest
 
 -- all, or names that cannot be read to their end; or the audit was stopped
-abbrev pub IsMet : (Fact → Type 0) → (every : Bool) → List SshdFile → Readers
+abbrev pub IsMet : (Fact → Type 0) → Search → List SshdFile → Readers
     → List (Bor (List ℕ)) → Result Bool Stop → List Visit → Type 0
-IsMet Knows every sought readers paths (Ok true) visits =
-    AreMet Knows every true sought readers paths visits
-IsMet Knows every sought readers paths (Ok false) visits =
-    AreCutOff Knows every sought readers visits
-IsMet Knows every sought readers paths (Err stop) visits =
-    AreMet Knows every false sought readers paths visits
+IsMet Knows search sought readers paths (Ok true) visits =
+    AreMet Knows search true sought readers paths visits
+IsMet Knows search sought readers paths (Ok false) visits =
+    AreCutOff Knows search sought readers visits
+IsMet Knows search sought readers paths (Err stop) visits =
+    AreMet Knows search false sought readers paths visits
 
 -- ---- what is printed
 
 -- the last object, which has the SHA-256 of the list
-abbrev pub last_if : Option (List ℕ) → (name : List ℕ) → Queried → Tally → List Item
-last_if None name queried tally = []
-last_if (Some sha256) name queried tally =
-    said_of name (json_line (done_object tally.files.counts tally.counts (record {
+abbrev pub last_if : Option (List ℕ) → (label : Option (List ℕ)) → (name : List ℕ) → Queried
+    → Tally → List Item
+last_if None label name queried tally = []
+last_if (Some sha256) label name queried tally =
+    said_of name (json_line (done_object label tally.files.counts tally.counts (record {
       name = record { ref_ptr = (0, 0); now = name };
       stated = queried.stated;
       sha256 = sha256;
     }))) ∷ []
 
-abbrev pub last_items : (name : List ℕ) → Queried → Tally → List Item
-last_items name queried tally = last_if queried.sha256 name queried tally
+abbrev pub last_items : (label : Option (List ℕ)) → (name : List ℕ) → Queried → Tally → List Item
+last_items label name queried tally = last_if queried.sha256 label name queried tally
 
 -- the fault of a reader of names that failed
 abbrev pub names_fault : (names_from : List ℕ) → RunFault
@@ -175,13 +179,13 @@ pub record IsAudit (Knows : Fact → Type 0) (order : Order) (queried : Queried)
     (stop : Option RunFault) (run : List Item) : Type 0 where
   pub visits : List Visit
   pub whole : Bool
-  pub met : AreMet Knows order.every_file whole order.sought.now readers order.paths.now visits
+  pub met : AreMet Knows order.search whole order.sought.now readers order.paths.now visits
   pub timely : AreTimely answers old visits
   pub quiet : order.shown.revoked ≡ false
       → AreQuiet answers (not whole) old visits
-  pub is_run : IsRunOf (AreCutOff Knows order.every_file order.sought.now readers visits) order
+  pub is_run : IsRunOf (AreCutOff Knows order.search order.sought.now readers visits) order
       (visits_items answers order.shown visits)
-      (last_items order.list.now queried tally) whole tally stop run
+      (last_items (label_now order.shown.label) order.list.now queried tally) whole tally stop run
   pub tally_is : stop ≡ None → tally ≡ all_tallied answers old visits
 
 -- All was audited after nothing was printed, or the audit was stopped.

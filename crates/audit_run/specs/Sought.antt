@@ -1,6 +1,6 @@
 -- The files that sshd reads, and what an audit meets there.
-use Rattle.std.specs.Prelude.{◌≡◌, ℕ, ◌<◌, ◌≤◌, ◌==◌, ◌||◌, Bool, true, false, List, [], ◌∷◌, ◌++◌, codes}
-use Rattle.std.specs.Prelude.{length, take, Result, Ok, Err}
+use Rattle.std.specs.Prelude.{◌≡◌, ℕ, ◌<◌, ◌≤◌, ◌==◌, ◌||◌, Bool, true, false, List, [], ◌++◌, codes}
+use Rattle.std.specs.Prelude.{length, take, Some, Result, Ok, Err}
 use Rattle.std.specs.List.{list_any}
 use Rattle.std.specs.Str.{IsUtf8}
 use Rattle.line_pieces.specs.Visible.{visible_bytes}
@@ -18,7 +18,7 @@ use Rattle.audit_run.specs.declared.file_kind.Found.{Found}
 
 -- a file whose lines are read as those of authorized_keys, whatever its name is
 abbrev pub as_keys : List ℕ → FileName
-as_keys path = record { shown = path; read_as = codes "authorized_keys" }
+as_keys path = record { shown = path; read_as = Some (codes "authorized_keys") }
 
 -- the file of the public key of a host key
 abbrev pub public_path : List ℕ → List ℕ

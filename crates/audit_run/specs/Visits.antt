@@ -18,6 +18,7 @@ use Rattle.krl_types.specs.Subject.{Subject}
 use Rattle.audit_text.specs.Answer.{Answer}
 use Rattle.krl_audit.specs.Audit.{FileName, JudgesAs, file_items, file_kinds, own_name, said_if}
 use Rattle.krl_audit.specs.Counts.{all_counted, one_more}
+use Rattle.audit_text.specs.Place.{file_place, label_now}
 use Rattle.audit_text.specs.Same.{same_said}
 use Rattle.krl_audit.specs.declared.counts.Counts.{Counts}
 use Rattle.krl_audit.specs.declared.done.FileCounts.{FileCounts}
@@ -46,7 +47,9 @@ refused name refusal = Audited None (own_name name) (Err refusal) ∷ []
 -- ---- what is printed
 
 abbrev pub same_items : Shown → (told : Bool) → List ℕ → List Item
-same_items shown true name = said_if shown.revoked name (same_said shown.format name) ∷ []
+same_items shown true name =
+    said_if shown.revoked name (same_said shown.format (file_place (label_now shown.label) name))
+    ∷ []
 same_items shown false name = []
 
 abbrev pub visit_items : (Subject → Answer) → Shown → Visit → List Item

@@ -7,29 +7,26 @@ use Rattle.std.specs.Prelude.{Result, Ok, Err}
 use Rattle.std.specs.Prelude.{string_bytes}
 use Rattle.std.specs.Global.{Vec}
 use Rattle.audit_run.specs.Paths.{path_in}
-use Rattle.audit_lines.specs.Front.{reads_every}
 use Rattle.audit_lines.specs.declared.why.Refusal.{Refusal}
 use Rattle.audit_lines.specs.declared.why.Refusal.TheVariants as refusals
 use Rattle.audit_run.specs.Entries.{IsEntry}
 use Rattle.audit_run.specs.Fact.{Breaks, Elsewhere, Fact, Lists}
 use Rattle.audit_run.specs.Names.{AreWantedInOrder}
+use Rattle.audit_run.specs.Search.{search_in, selects_every}
 use Rattle.audit_run.specs.Visits.{Meets, Skipped, State, Visit, gives, passes, refused}
 use Rattle.audit_run.specs.ZeroEnded.{most_bytes}
 use Rattle.audit_run.specs.declared.files.Since.{Since}
 use Rattle.audit_run.specs.declared.files.Skip.TheVariants as skips
 use Rattle.audit_run.specs.declared.names.Listing.{Listing}
+use Rattle.audit_run.specs.declared.search.Search.{Search}
 use Rattle.audit_run.specs.declared.walk.Entered.{Entered}
 
--- A directory that was entered, whether each of its files is read, and its names that are left, of
--- which the last one is next.
+-- A directory that was entered, which of its files are read, and its names that are left, of which
+-- the last one is next.
 pub record Level : Type 0 where
   pub path : List ℕ
-  pub every : Bool
+  pub search : Search
   pub names : List (Vec ℕ)
-
--- each file of this directory is read, or of all directories
-abbrev pub every_in : (every : Bool) → List ℕ → Bool
-every_in every path = every || reads_every path
 
 -- ---- one step
 
@@ -58,60 +55,61 @@ IsNamesOf Knows every path named (Ok listing) =
 IsNamesOf Knows every path named (Err refusal) = IsClosed Knows path named refusal
 
 -- A directory at this path is not entered, or it is the last one that was entered.
-pub data IsEntered (Knows : Fact → Type 0) (every named : Bool) (path : List ℕ)
+pub data IsEntered (Knows : Fact → Type 0) (search : Search) (named : Bool) (path : List ℕ)
     (visits : List Visit) (levels : List Level) : Type 0 where
   not_entered : (refusal : Refusal) → IsClosed Knows path named refusal
       → visits ≡ refused path refusal → levels ≡ []
-      → IsEntered Knows every named path visits levels
+      → IsEntered Knows search named path visits levels
   entered : (names : List (Vec ℕ)) (skipped : ℕ)
-      → IsOpen Knows (every_in every path) path named names skipped
+      → IsOpen Knows (selects_every (search_in search path)) path named names skipped
       → visits ≡ Skipped skips.ByName skipped ∷ []
-      → levels ≡ (record { path = path; every = every_in every path; names = reverse names }) ∷ []
-      → IsEntered Knows every named path visits levels
+      → levels
+      ≡ (record { path = path; search = search_in search path; names = reverse names }) ∷ []
+      → IsEntered Knows search named path visits levels
 
 -- A directory that was found is entered, or it is on another file system and the audit stays on
 -- one.
-pub data IsEnteredBelow (Knows : Fact → Type 0) (every : Bool) (path : List ℕ)
+pub data IsEnteredBelow (Knows : Fact → Type 0) (search : Search) (path : List ℕ)
     (visits : List Visit) (levels : List Level) : Type 0 where
   elsewhere : Knows (Elsewhere path true) → visits ≡ Skipped skips.Elsewhere 1 ∷ []
-      → levels ≡ [] → IsEnteredBelow Knows every path visits levels
-  entered_below : Knows (Elsewhere path false) → IsEntered Knows every false path visits levels
-      → IsEnteredBelow Knows every path visits levels
+      → levels ≡ [] → IsEnteredBelow Knows search path visits levels
+  entered_below : Knows (Elsewhere path false) → IsEntered Knows search false path visits levels
+      → IsEnteredBelow Knows search path visits levels
 
 -- The next name of the directory that was entered last leads to this, or it has no name left.
-pub data Turn (Knows : Fact → Type 0) (every : Bool) : List Level → List Visit → List Level → Type 0
-  where
-    leaves : (levels : List Level) (last : Level) → last.names ≡ []
-        → Turn Knows every (levels ++ last ∷ []) [] levels
-    goes : (levels : List Level) (last : Level) (left : List (Vec ℕ)) (name : Vec ℕ)
-        (visits : List Visit) → last.names ≡ left ++ name ∷ []
-        → IsEntry Knows last.every last.path name.items false visits
-        → Turn Knows every (levels ++ last ∷ []) visits
-        (levels ++ (record last { names = left }) ∷ [])
-    goes_down : (levels : List Level) (last : Level) (left : List (Vec ℕ)) (name : Vec ℕ)
-        (visits : List Visit) (below : List Level) → last.names ≡ left ++ name ∷ []
-        → IsEntry Knows last.every last.path name.items true []
-        → IsEnteredBelow Knows every (path_in last.path name.items) visits below
-        → Turn Knows every (levels ++ last ∷ []) visits
-        ((levels ++ (record last { names = left }) ∷ []) ++ below)
+pub data Turn (Knows : Fact → Type 0) (search : Search)
+    : List Level → List Visit → List Level → Type 0 where
+  leaves : (levels : List Level) (last : Level) → last.names ≡ []
+      → Turn Knows search (levels ++ last ∷ []) [] levels
+  goes : (levels : List Level) (last : Level) (left : List (Vec ℕ)) (name : Vec ℕ)
+      (visits : List Visit) → last.names ≡ left ++ name ∷ []
+      → IsEntry Knows last.search last.path name.items false visits
+      → Turn Knows search (levels ++ last ∷ []) visits
+      (levels ++ (record last { names = left }) ∷ [])
+  goes_down : (levels : List Level) (last : Level) (left : List (Vec ℕ)) (name : Vec ℕ)
+      (visits : List Visit) (below : List Level) → last.names ≡ left ++ name ∷ []
+      → IsEntry Knows last.search last.path name.items true []
+      → IsEnteredBelow Knows search (path_in last.path name.items) visits below
+      → Turn Knows search (levels ++ last ∷ []) visits
+      ((levels ++ (record last { names = left }) ∷ []) ++ below)
 
 -- so many steps, from these directories to those
-pub data Turns (Knows : Fact → Type 0) (every : Bool) (start : List Level)
+pub data Turns (Knows : Fact → Type 0) (search : Search) (start : List Level)
     : ℕ → List Level → List Visit → Type 0 where
-  none : Turns Knows every start 0 start []
+  none : Turns Knows search start 0 start []
   turned : (count : ℕ) (now next : List Level) (visits more : List Visit)
-      → Turns Knows every start count now visits → Turn Knows every now more next
-      → Turns Knows every start (count + 1) next (visits ++ more)
+      → Turns Knows search start count now visits → Turn Knows search now more next
+      → Turns Knows search start (count + 1) next (visits ++ more)
 
 -- ---- a directory that is named
 
-abbrev pub is_settled : (every gave passed : Bool) → Bool
-is_settled every gave passed = gave || (every && not passed)
+abbrev pub is_settled : Search → (gave passed : Bool) → Bool
+is_settled search gave passed = gave || (selects_every search && not passed)
 
 -- A directory that gives no file is not read, unless all files are read and there is none.
-abbrev pub no_file : (every : Bool) → List ℕ → (gave passed : Bool) → List Visit
-no_file every path gave passed =
-    if is_settled every gave passed then [] else refused path refusals.NoFile
+abbrev pub no_file : Search → List ℕ → (gave passed : Bool) → List Visit
+no_file search path gave passed =
+    if is_settled search gave passed then [] else refused path refusals.NoFile
 
 -- the most steps
 abbrev pub most_turns : ℕ
@@ -119,28 +117,28 @@ most_turns = 2 ^ 64 - 1
 
 -- A directory that is named leads to this, with all below it: it was walked to its end, or so far,
 -- or there was no end within the most steps.
-pub data IsDirectory (Knows : Fact → Type 0) (every whole : Bool) (path : List ℕ)
+pub data IsDirectory (Knows : Fact → Type 0) (search : Search) (whole : Bool) (path : List ℕ)
     (visits : List Visit) : Type 0 where
-  before : whole ≡ false → visits ≡ [] → IsDirectory Knows every whole path visits
+  before : whole ≡ false → visits ≡ [] → IsDirectory Knows search whole path visits
   stopped : (first rest : List Visit) (start now : List Level) (count : ℕ) → whole ≡ false
-      → IsEntered Knows every true path first start → Turns Knows every start count now rest
-      → visits ≡ first ++ rest → IsDirectory Knows every whole path visits
+      → IsEntered Knows search true path first start → Turns Knows search start count now rest
+      → visits ≡ first ++ rest → IsDirectory Knows search whole path visits
   walked : (first rest : List Visit) (start : List Level) (count : ℕ)
-      → IsEntered Knows every true path first start → Turns Knows every start count [] rest
+      → IsEntered Knows search true path first start → Turns Knows search start count [] rest
       → visits ≡ (first ++ rest)
-      ++ no_file every path (gives (first ++ rest)) (passes (first ++ rest))
-      → IsDirectory Knows every whole path visits
+      ++ no_file search path (gives (first ++ rest)) (passes (first ++ rest))
+      → IsDirectory Knows search whole path visits
   endless : (first rest : List Visit) (start now : List Level) (count : ℕ)
-      → IsEntered Knows every true path first start → Turns Knows every start count now rest
+      → IsEntered Knows search true path first start → Turns Knows search start count now rest
       → most_turns ≤ count
       → visits ≡ (first ++ rest) ++ refused path refusals.Read
-      → IsDirectory Knows every whole path visits
+      → IsDirectory Knows search whole path visits
 
 -- ---- the directories that were entered, as they are held
 
 abbrev pub level_of : Entered → Level
 level_of held =
-    record { path = string_bytes held.path; every = held.every; names = held.names.items }
+    record { path = string_bytes held.path; search = held.search; names = held.names.items }
 
 abbrev pub levels_of : List Entered → List Level
 levels_of all = map level_of all
@@ -150,11 +148,11 @@ level_in None = []
 level_in (Some held) = level_of held ∷ []
 
 -- A step was done, or had been begun at most.
-abbrev pub MayTurn : (done : Bool) → (Fact → Type 0) → (every : Bool) → List Level → List Level
+abbrev pub MayTurn : (done : Bool) → (Fact → Type 0) → Search → List Level → List Level
     → List Visit → Type 0
-MayTurn true Knows every now next visits = Turn Knows every now visits next
-MayTurn false Knows every now next visits =
-    ((other : List Level) × Turn Knows every now visits other) ⊎ (visits ≡ [])
+MayTurn true Knows search now next visits = Turn Knows search now visits next
+MayTurn false Knows search now next visits =
+    ((other : List Level) × Turn Knows search now visits other) ⊎ (visits ≡ [])
 
 -- ---- how far a walk is
 
@@ -167,11 +165,11 @@ abbrev pub entering : State → State
 entering old = record old { since = nothing }
 
 -- A directory at this path was entered, and so many steps were taken.
-pub record Walked (Knows : Fact → Type 0) (every : Bool) (path : List ℕ) (count : ℕ)
+pub record Walked (Knows : Fact → Type 0) (search : Search) (path : List ℕ) (count : ℕ)
     (levels : List Level) (old new : State) : Type 0 where
   pub first : List Visit
   pub rest : List Visit
   pub start : List Level
-  pub enters : IsEntered Knows every true path first start
-  pub turns : Turns Knows every start count levels rest
+  pub enters : IsEntered Knows search true path first start
+  pub turns : Turns Knows search start count levels rest
   pub meets : Meets (first ++ rest) None old new

@@ -18,6 +18,7 @@ use crate::names::{Directory, is_never};
 use crate::paths::{path_in, shown_path};
 use crate::reading::{Reading, content_of, is_private, read_file, read_front};
 use crate::round::{Round, Screen};
+use crate::search::{name_in, selects_every};
 use crate::selection::{Selection, selection_of};
 use crate::stop::Stop;
 use crate::tree::Tree;
@@ -43,7 +44,7 @@ pub(crate) fn audit_entry<T: Tree, W: Screen>(
     place: Directory<'_>,
     name: &[u8],
 ) -> Result<Option<String>, Stop>
-    ensures entry { Goes result (λ below. IsEntry (T.states tree.now) place.entry.every
+    ensures entry { Goes result (λ below. IsEntry (T.states tree.now) place.entry.search
         place.entry.path.now name.now (is_some below)) round.old round.new }
     ensures below { IfOk result (λ below. IfSome below (λ path.
         string_bytes path ≡ path_in place.entry.path.now name.now)) }
@@ -59,7 +60,7 @@ pub(crate) fn audit_entry<T: Tree, W: Screen>(
         return Ok(None);
     };
     let path = path_in(alloc, place.path, text)?;
-    let selection = selection_of(place.every, name);
+    let selection = selection_of(selects_every(place.search), name);
     if is_never(selection) {
         return Ok(Some(path));
     }
@@ -69,14 +70,11 @@ pub(crate) fn audit_entry<T: Tree, W: Screen>(
     }
     let found_at = path.as_str();
     let entry = Entry {
-        name: FileName {
-            shown: found_at,
-            read_as: found_at,
-        },
+        name: name_in(place.search, found_at),
         by_name: is_always(selection),
         expected: is_always(selection_of(reads_every(place.path.as_bytes()), name)),
     };
-    let target = target_of(tree, entry.name.shown, looked);
+    let target = target_of(tree, found_at, looked);
     audit_target(tree, round, entry, target)?;
     Ok(None)
 }
@@ -141,32 +139,31 @@ pub(crate) fn audit_target<T: Tree, W: Screen>(
     ensures { Goes result (λ _. VisitsTarget (T.states tree.now) (name_by entry.entry.name)
         entry.entry.by_name entry.entry.expected target) round.old round.new }
 {
-    let path = entry.name.shown;
     let found = match target {
         Ok(found) => found,
-        Err(refusal) => return round.audit(path, Err(refusal)),
+        Err(refusal) => return round.audit(entry.name.shown, Err(refusal)),
     };
     match found.kind {
         FileKind::File => audit_file(tree, round, entry, found),
-        FileKind::Null => audit_if(round, entry.by_name, path, Ok(b"")),
+        FileKind::Null => audit_if(round, entry.by_name, entry.name, Ok(b"")),
         FileKind::Directory | FileKind::Link | FileKind::Other => {
-            audit_if(round, entry.expected, path, Err(Refusal::Irregular))
+            audit_if(round, entry.expected, entry.name, Err(Refusal::Irregular))
         }
     }
 }
 
-// Audits this content of a path, or skips its name.
+// Audits this content of a file, or skips its name.
 fn audit_if<W: Screen>(
     round: &mut Round<'_, '_, W>,
     audited: bool,
-    path: &str,
+    name: FileName<'_>,
     content: Result<&[u8], Refusal>,
 ) -> Result<(), Stop>
-    ensures { Meets (audited_if audited path.now (content_of content.entry)) (result_err result)
-        round.old round.new }
+    ensures { Meets (audited_if audited (name_by name.entry) (content_of content.entry))
+        (result_err result) round.old round.new }
 {
     if audited {
-        round.audit(path, content)
+        round.audit_as(None, name, content)
     } else {
         round.skip(Skip::ByName, 1);
         Ok(())
@@ -246,7 +243,7 @@ pub(crate) fn audit_opened<T: Tree, W: Screen>(
         → Goes result (λ _. IsOpened (T.states tree.now) (name_by name.entry) reading.identity
         bytes) round.old round.new }
 {
-    let key = key_of(name.read_as.as_bytes(), reading.identity);
+    let key = key_of(name.read_as, reading.identity);
     if round.files.has(key) {
         round.text = reading.text;
         round.say_same(key, name.shown)

@@ -1,9 +1,10 @@
 //! The counts of files, and which files were audited.
 
-ghost use Rattle.std.specs.Prelude.{◌≡◌, ◌+◌, ◌≤◌, OnOk};
+ghost use Rattle.std.specs.Prelude.{◌≡◌, ◌+◌, ◌≤◌, OnOk, option_map};
+ghost use Rattle.audit_lines.specs.Front.{fronts_of, is_read_by_lines};
 ghost use Rattle.audit_run.specs.Visits.{free_from, is_seen, is_told, names_of, no_files};
 ghost use Rattle.audit_run.specs.Visits.{with_audited, with_key, with_same, with_skipped};
-ghost use Rattle.audit_run.specs.Entries.{key_of, way_of};
+ghost use Rattle.audit_run.specs.Entries.{key_of, way_by, way_of};
 
 use crate::file_kind::Identity;
 use audit_lines::{Fronts, is_read_by_lines};
@@ -148,9 +149,10 @@ impl Files {
     }
 }
 
-/// The key of the file with this identity, as this name says that it is read.
-pub(crate) fn key_of(read_as: &[u8], identity: Identity) -> Key
-    ensures { result ≡ key_of read_as.now identity }
+/// The key of the file with this identity, as this name says that it is read, or if keys are found
+/// anywhere in its lines.
+pub(crate) fn key_of(read_as: Option<&str>, identity: Identity) -> Key
+    ensures { result ≡ key_of (option_map (λ path. path.now) read_as.entry) identity }
 {
     [
         identity.device,
@@ -162,9 +164,19 @@ pub(crate) fn key_of(read_as: &[u8], identity: Identity) -> Key
     ]
 }
 
+// How a file is read, as a number.
+fn way_of(read_as: Option<&str>) -> u64
+    ensures { result ≡ way_of (option_map (λ path. path.now) read_as.entry) }
+{
+    match read_as {
+        None => 6,
+        Some(path) => way_by(path.as_bytes()),
+    }
+}
+
 // How the name of a file says that it is read, as a number.
-fn way_of(path: &[u8]) -> u64
-    ensures { result ≡ way_of path.now }
+fn way_by(path: &[u8]) -> u64
+    ensures { result ≡ way_by (fronts_of path.now) (is_read_by_lines path.now) }
 {
     match (Fronts::of(path), is_read_by_lines(path)) {
         (Fronts::Hosts, false) => 0,

@@ -13,6 +13,7 @@ use crate::entries::{Entry, audit_opened, audit_read, audit_target, is_directory
 use crate::file_kind::Opened;
 use crate::reading::{Came, Reading, content_of, read_input};
 use crate::round::{Round, Screen};
+use crate::search::{Search, name_in};
 use crate::stop::Stop;
 use crate::tree::Tree;
 use crate::walk::audit_directory;
@@ -30,17 +31,17 @@ const NAME_LIMIT: usize = 4_096;
 pub(crate) fn audit_paths<T: Tree, I: Source + Drop, W: Screen>(
     tree: &T,
     round: &mut Round<'_, '_, W>,
-    every: bool,
+    search: Search,
     paths: &[&str],
     input: I,
 ) -> Result<(), Stop>
     requires { I.has_failed input ≡ false }
-    ensures { Went (λ whole. AreNamed (T.states tree.now) (SomeFailed I.has_failed) every whole
+    ensures { Went (λ whole. AreNamed (T.states tree.now) (SomeFailed I.has_failed) search whole
         (Some (I.left input)) paths.now) result round.old round.new }
 {
     let mut input = Some(input);
     for path in paths {
-        audit_named(tree, round, every, *path, &mut input)?;
+        audit_named(tree, round, search, *path, &mut input)?;
     }
     Ok(())
 }
@@ -49,47 +50,43 @@ pub(crate) fn audit_paths<T: Tree, I: Source + Drop, W: Screen>(
 fn audit_named<T: Tree, I: Source + Drop, W: Screen>(
     tree: &T,
     round: &mut Round<'_, '_, W>,
-    every: bool,
+    search: Search,
     path: &str,
     input: &mut Option<I>,
 ) -> Result<(), Stop>
     requires { IfSome input.old (λ input. I.has_failed input ≡ false) }
-    ensures named { Went (λ whole. IsNamed (T.states tree.now) (SomeFailed I.has_failed) every
+    ensures named { Went (λ whole. IsNamed (T.states tree.now) (SomeFailed I.has_failed) search
         whole path.now (left_in I.left input.old)) result round.old round.new }
     ensures input { left_in I.left input.new ≡ input_after path.now (left_in I.left input.old) }
     ensures working { IfSome input.new (λ input. I.has_failed input ≡ false) }
 {
     if path == "-" {
-        return audit_input(round, path, input.take());
+        return audit_input(round, name_in(search, path), input.take());
     }
     let found = tree.look(path, true);
     if is_directory(found) {
-        return audit_directory(tree, round, every, path);
+        return audit_directory(tree, round, search, path);
     }
-    let name = FileName {
-        shown: path,
-        read_as: path,
-    };
-    audit_waiting(tree, round, name)
+    audit_waiting(tree, round, name_in(search, path))
 }
 
 // Audits standard input, unless it was read before.
 fn audit_input<I: Source + Drop, W: Screen>(
     round: &mut Round<'_, '_, W>,
-    path: &str,
+    name: FileName<'_>,
     input: Option<I>,
 ) -> Result<(), Stop>
     requires { IfSome input (λ input. I.has_failed input ≡ false) }
     ensures { Goes result (λ _. IsInput (SomeFailed I.has_failed) (left_in I.left input)
-        path.now) round.old round.new }
+        (name_by name.entry)) round.old round.new }
 {
     let Some(input) = input else {
-        return round.audit(path, Ok(b""));
+        return round.audit_as(None, name, Ok(b""));
     };
     let mut input = input;
     let mut text = round.take_text();
     let read = read_input(&mut input, &mut text)?;
-    let done = round.audit(path, content_of(read, text.as_slice()));
+    let done = round.audit_as(None, name, content_of(read, text.as_slice()));
     round.text = text;
     done
 }
@@ -131,10 +128,10 @@ pub(crate) fn audit_waiting<T: Tree, W: Screen>(
 pub(crate) fn audit_listed<T: Tree, N: Source + Drop, W: Screen>(
     tree: &T,
     round: &mut Round<'_, '_, W>,
-    every: bool,
+    search: Search,
     names: N,
 ) -> Result<bool, Stop>
-    ensures names { Took (λ result. IsOnNames (T.states tree.now) every (is_whole result)
+    ensures names { Took (λ result. IsOnNames (T.states tree.now) search (is_whole result)
         (N.left names)) result round.old round.new }
     ensures broken { result ≡ Ok false → IsBroken (SomeFailed N.has_failed) (N.left names) }
 {
@@ -142,11 +139,11 @@ pub(crate) fn audit_listed<T: Tree, N: Source + Drop, W: Screen>(
     let mut name = Vec::new(round.auditor.run.alloc);
     'names: loop {
         match reader.next(NAME_LIMIT, &mut name)? {
-            Ok(()) => audit_one_listed(tree, round, every, name.as_slice())?,
+            Ok(()) => audit_one_listed(tree, round, search, name.as_slice())?,
             Err(Came::All) if name.is_empty() => return Ok(true),
             // The last name lacks its zero byte.
             Err(Came::All) => {
-                audit_one_listed(tree, round, every, name.as_slice())?;
+                audit_one_listed(tree, round, search, name.as_slice())?;
                 return Ok(true);
             }
             Err(Came::More) => return Ok(false),
@@ -159,11 +156,11 @@ pub(crate) fn audit_listed<T: Tree, N: Source + Drop, W: Screen>(
 fn audit_one_listed<T: Tree, W: Screen>(
     tree: &T,
     round: &mut Round<'_, '_, W>,
-    every: bool,
+    search: Search,
     name: &[u8],
 ) -> Result<(), Stop>
     ensures { (full : List ℕ) → name.now ≡ take (most_name + 1) full
-        → Went (λ whole. IsOnList (T.states tree.now) every whole full) result round.old
+        → Went (λ whole. IsOnList (T.states tree.now) search whole full) result round.old
         round.new }
 {
     if is_too_long(name) {
@@ -172,29 +169,26 @@ fn audit_one_listed<T: Tree, W: Screen>(
     let Ok(text) = str::from_utf8(name) else {
         return refuse_name(round, name, Refusal::Open);
     };
-    audit_text(tree, round, every, text)
+    audit_text(tree, round, search, text)
 }
 
 // Audits a file or a directory of a list of names, whose name can be that of a file.
 fn audit_text<T: Tree, W: Screen>(
     tree: &T,
     round: &mut Round<'_, '_, W>,
-    every: bool,
+    search: Search,
     path: &str,
 ) -> Result<(), Stop>
     ensures { length path.now ≤ most_name
-        → Went (λ whole. IsOnList (T.states tree.now) every whole path.now) result round.old
+        → Went (λ whole. IsOnList (T.states tree.now) search whole path.now) result round.old
         round.new }
 {
     let found = tree.look(path, true);
     if is_directory(found) {
-        return audit_directory(tree, round, every, path);
+        return audit_directory(tree, round, search, path);
     }
     let entry = Entry {
-        name: FileName {
-            shown: path,
-            read_as: path,
-        },
+        name: name_in(search, path),
         by_name: true,
         expected: true,
     };

@@ -3,6 +3,7 @@
 ghost use Rattle.std.specs.Prelude.{◌≡◌, ◌+◌, ◌∷◌, ◌++◌, [], ℕ, List, IfOk, OnOk};
 ghost use Rattle.audit_run.specs.Names.{AreFound, IsWanted, MayBeDirectory, MayBeWanted};
 ghost use Rattle.audit_run.specs.Names.{capped, is_dots, is_never, may_be_behind, passed_over};
+ghost use Rattle.audit_run.specs.Search.{selects_every};
 ghost use Rattle.audit_run.specs.Walk.{IsNamesOf};
 
 use crate::entries::is_directory;
@@ -10,6 +11,7 @@ use crate::file_kind::Found;
 use crate::paths::path_in;
 use crate::reading::Came;
 use crate::round::{Round, Screen};
+use crate::search::{Search, selects_every};
 use crate::selection::{Selection, is_sought, selection_of};
 use crate::sorting::sort_names;
 use crate::tree::Tree;
@@ -18,11 +20,11 @@ use audit_lines::Refusal;
 use std::alloc::{AllocError, Global};
 use std::str;
 
-/// A directory, and whether each of its files is read.
+/// A directory, and the search in it.
 #[derive(Clone, Copy)]
 pub(crate) struct Directory<'p> {
     pub(crate) path: &'p str,
-    pub(crate) every: bool,
+    pub(crate) search: Search,
 }
 
 /// The names of a directory that an audit goes to, and how many others there are.
@@ -40,8 +42,8 @@ pub(crate) fn names_in<T: Tree, W: Screen>(
     place: Directory<'_>,
     named: bool,
 ) -> Result<Result<Listing, Refusal>, AllocError>
-    ensures names { IfOk result (IsNamesOf (T.states tree.now) place.entry.every
-        place.entry.path.now named) }
+    ensures names { IfOk result (IsNamesOf (T.states tree.now)
+        (selects_every place.entry.search) place.entry.path.now named) }
     ensures kept { round.new ≡ round.old }
 {
     let alloc = round.auditor.run.alloc;
@@ -80,9 +82,10 @@ fn take_name<T: Tree>(
     name: Vec<u8>,
     listing: &mut Listing,
 ) -> Result<(), AllocError>
-    ensures { (names : List (List ℕ)) → AreFound (T.states tree.now) place.entry.every
-        place.entry.path.now names listing.old → OnOk result (AreFound (T.states tree.now)
-        place.entry.every place.entry.path.now (names ++ name.items ∷ []) listing.new) }
+    ensures { let every = selects_every place.entry.search in
+        (names : List (List ℕ)) → AreFound (T.states tree.now) every place.entry.path.now names
+        listing.old → OnOk result (AreFound (T.states tree.now) every place.entry.path.now
+        (names ++ name.items ∷ []) listing.new) }
 {
     let wanted = is_wanted(alloc, tree, place, name.as_slice())?;
     if wanted {
@@ -112,8 +115,8 @@ fn is_wanted<T: Tree>(
     place: Directory<'_>,
     name: &[u8],
 ) -> Result<bool, AllocError>
-    ensures { IfOk result (λ wanted. IsWanted (T.states tree.now) place.entry.every
-        place.entry.path.now wanted name.now) }
+    ensures { IfOk result (λ wanted. IsWanted (T.states tree.now)
+        (selects_every place.entry.search) place.entry.path.now wanted name.now) }
 {
     if is_dots(name) {
         return Ok(false);
@@ -121,7 +124,7 @@ fn is_wanted<T: Tree>(
     if tree.is_excluded(name) {
         return Ok(true);
     }
-    if !is_never(selection_of(place.every, name)) {
+    if !is_never(selection_of(selects_every(place.search), name)) {
         return Ok(true);
     }
     let Ok(text) = str::from_utf8(name) else {

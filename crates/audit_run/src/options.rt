@@ -8,7 +8,7 @@ use krl_audit::Shown;
 
 /// The options of the command that say which findings are printed, and how.
 #[derive(Clone, Copy)]
-pub struct Options {
+pub struct Options<'l> {
     /// True if nothing is printed on standard output.
     pub quiet: bool,
     /// True if keys that are not revoked are printed too.
@@ -17,6 +17,8 @@ pub struct Options {
     pub json: bool,
     /// True if standard output shows colours.
     pub colours: bool,
+    /// The text before the name of each finding.
+    pub label: Option<&'l str>,
 }
 
 /// The facts about standard output and the environment.
@@ -40,12 +42,13 @@ impl Terminal {
     }
 }
 
-impl Options {
+impl<'l> Options<'l> {
     /// Which findings are printed, and how.
-    pub fn shown(self) -> Shown
-        ensures { result ≡ shown_by self }
+    pub fn shown(self) -> Shown<'l>
+        ensures { result ≡ shown_by self.entry }
     {
         Shown {
+            label: self.label,
             revoked: !self.quiet,
             unread: !self.quiet,
             fine: self.all && !self.quiet,

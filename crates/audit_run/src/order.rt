@@ -4,6 +4,7 @@ ghost use Rattle.std.specs.Prelude.{◌≡◌};
 ghost use Rattle.audit_run.specs.Order.{IsOrder};
 
 use crate::options::{Options, Terminal};
+use crate::search::{Search, search_of};
 use krl_arguments::Audit;
 use krl_audit::Shown;
 use krl_entries::Revocations;
@@ -23,9 +24,9 @@ pub struct Order<'a> {
     /// The files that sshd reads, which are audited first.
     pub sought: &'a [SshdFile],
     /// Which findings are printed, and how.
-    pub shown: Shown,
-    /// Whether every regular file of a directory is read, whatever its name.
-    pub every_file: bool,
+    pub shown: Shown<'a>,
+    /// Which files of directories are read, and where keys are sought in their lines.
+    pub search: Search,
     /// The file of names of files; empty if there is none.
     pub names_from: &'a str,
     /// The files and directories that are named.
@@ -55,6 +56,7 @@ impl<'a> Order<'a> {
             quiet: task.quiet,
             all: task.all,
             json: task.json,
+            label: task.label,
             colours: terminal.has_colours(),
         };
         Order {
@@ -63,7 +65,7 @@ impl<'a> Order<'a> {
             texts: loaded.texts,
             sought: loaded.sought,
             shown: options.shown(),
-            every_file: task.every_file,
+            search: search_of(task.scan, task.every_file),
             names_from: task.names_from.unwrap_or(""),
             paths: task.files.as_slice(),
         }

@@ -112,7 +112,7 @@ impl<'q, 'w, W: Screen> Round<'q, 'w, W> {
     {
         let name = FileName {
             shown: name,
-            read_as: name,
+            read_as: Some(name),
         };
         self.audit_as(None, name, content)
     }
@@ -180,8 +180,8 @@ fn stop_by(fault: &RunFault<'_>) -> Stop
 }
 
 // Whether the audit ends at a file in which a key is revoked or not: no finding is asked for.
-fn ends_at(shown: Shown, revoked: bool) -> bool
-    ensures { result ≡ revoked && not shown.revoked }
+fn ends_at(shown: Shown<'_>, revoked: bool) -> bool
+    ensures { result ≡ revoked && not shown.entry.revoked }
 {
     revoked && !shown.revoked
 }

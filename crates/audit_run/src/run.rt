@@ -3,6 +3,7 @@
 ghost use Rattle.std.specs.Prelude.{◌≡◌, Option, Some, false, IfSome};
 ghost use Rattle.std.specs.Result.{result_err};
 ghost use Rattle.run_output.specs.Carries.{Carries};
+ghost use Rattle.audit_text.specs.Place.{label_now};
 ghost use Rattle.krl_audit.specs.Audit.{IsUsable};
 ghost use Rattle.audit_run.specs.Run.{AuditsAll, EndsAuditBy, EndsAuditRun, HasNames, IsGiven, IsMet};
 ghost use Rattle.audit_run.specs.Run.{is_hashed, last_items, names_fault, readers_of, sha256_if};
@@ -107,8 +108,8 @@ pub fn audit_run<'a, T: Tree, N: Source + Drop, I: Source + Drop, W: Screen>(
 }
 
 /// The SHA-256 of the list, if the last object is printed, which has it.
-pub fn sha256_if(shown: Shown, bytes: &[u8]) -> Option<[u8; 32]>
-    ensures { result ≡ sha256_if (is_hashed shown) bytes.now }
+pub fn sha256_if(shown: Shown<'_>, bytes: &[u8]) -> Option<[u8; 32]>
+    ensures { result ≡ sha256_if (is_hashed shown.entry) bytes.now }
 {
     match (shown.format, shown.revoked) {
         (Format::Json, true) => Some(sha256_of(bytes)),
@@ -228,7 +229,7 @@ fn audit_met<T: Tree, N: Source + Drop, I: Source + Drop, W: Screen>(
 ) -> Result<bool, Stop>
     requires names { IfSome given.names (λ names. N.has_failed names ≡ false) }
     requires input { I.has_failed given.input ≡ false }
-    ensures { Took (IsMet (T.states given.entry.tree.now) order.now.every_file
+    ensures { Took (IsMet (T.states given.entry.tree.now) order.now.search
         order.now.sought.now
         (readers_of N.left N.has_failed given.entry.names I.left I.has_failed given.entry.input)
         order.now.paths.now) result round.old round.new }
@@ -246,13 +247,13 @@ fn audit_given<T: Tree, N: Source + Drop, I: Source + Drop, W: Screen>(
 ) -> Result<bool, Stop>
     requires names { IfSome given.names (λ names. N.has_failed names ≡ false) }
     requires input { I.has_failed given.input ≡ false }
-    ensures { Took (IsGiven (T.states given.entry.tree.now) order.now.every_file
+    ensures { Took (IsGiven (T.states given.entry.tree.now) order.now.search
         (readers_of N.left N.has_failed given.entry.names I.left I.has_failed given.entry.input)
         order.now.paths.now) result round.old round.new }
 {
     let Sources { tree, names, input } = given;
     let Some(names) = names else {
-        audit_paths(tree, round, order.every_file, order.paths, input)?;
+        audit_paths(tree, round, order.search, order.paths, input)?;
         return Ok(true);
     };
     audit_both(tree, round, order, names, input)
@@ -269,13 +270,13 @@ fn audit_both<T: Tree, N: Source + Drop, I: Source + Drop, W: Screen>(
 ) -> Result<bool, Stop>
     requires names { N.has_failed names ≡ false }
     requires input { I.has_failed input ≡ false }
-    ensures { Took (IsGiven (T.states tree.now) order.now.every_file
+    ensures { Took (IsGiven (T.states tree.now) order.now.search
         (readers_of N.left N.has_failed (Some names) I.left I.has_failed input)
         order.now.paths.now) result round.old round.new }
 {
-    let is_whole = audit_listed(tree, round, order.every_file, names)?;
+    let is_whole = audit_listed(tree, round, order.search, names)?;
     if is_whole {
-        audit_paths(tree, round, order.every_file, order.paths, input)?;
+        audit_paths(tree, round, order.search, order.paths, input)?;
         Ok(true)
     } else {
         Ok(false)
@@ -306,8 +307,9 @@ fn say_last<'a, W: Screen>(
     order: &Order<'a>,
     queried: &Queried<'_>,
 ) -> Result<(), RunFault<'a>>
-    ensures carries { Carries (last_items order.now.list.now queried.now round.old.tally) result
-        round.old.printer round.new.printer }
+    ensures carries { Carries (last_items (label_now round.old.judge.shown.label)
+        order.now.list.now queried.now round.old.tally) result round.old.printer
+        round.new.printer }
     ensures judge { round.new.judge ≡ round.old.judge }
     ensures tally { round.new.tally ≡ round.old.tally }
 {

@@ -111,7 +111,7 @@ fn keys_at(path: &str) -> FileName<'_>
 {
     FileName {
         shown: path,
-        read_as: "authorized_keys",
+        read_as: Some("authorized_keys"),
     }
 }
 
@@ -147,13 +147,13 @@ fn audit_host_key<T: Tree, W: Screen>(
     if is_missing(found) {
         let name = FileName {
             shown: path,
-            read_as: path,
+            read_as: Some(path),
         };
         return audit_at(tree, round, name);
     }
     let name = FileName {
         shown: beside,
-        read_as: beside,
+        read_as: Some(beside),
     };
     audit_there(tree, round, name, found)
 }

@@ -37,8 +37,10 @@ use Rattle.krl_entries.specs.declared.reasons.Reasons.{Reasons}
 use Rattle.audit_text.specs.Colour.{HasNoEscape, IsCount, IsPainted, in_colour, painted, verdict_word, word_text}
 use Rattle.audit_text.specs.More.{are_more, kind_mark, kind_word, more_line, more_words}
 use Rattle.audit_text.specs.Answer.{Answer, HaveNumbers}
+use Rattle.audit_text.specs.Place.{HasNumbers, Place, line_place}
+use Rattle.audit_text.specs.Same.{same_line}
 use Rattle.audit_text.specs.Print.{Spelled, authority_words, print_by, spelled_by}
-use Rattle.audit_text.specs.Text.{comment_words, entry_line, explained_if, explained_text, key_line, key_text, key_words, unnamed_line, location_text, of_authority, reason_parts, reason_words, reasons_text, type_of, unread_line}
+use Rattle.audit_text.specs.Text.{column_text, comment_words, entry_line, explained_if, explained_text, key_line, key_text, key_words, label_text, number_text, unnamed_line, location_text, of_authority, reason_parts, reason_words, reasons_text, type_of, unread_line}
 use Rattle.line_pieces.specs.Visible.{visible}
 use Rattle.text_index.specs.Explaining.{Explained}
 use Rattle.text_index.specs.NamingLines.{Line}
@@ -81,13 +83,25 @@ verdict_painted location tail false before after = one_word location tail (codes
 
 -- ---- the location, and the comment
 
-number_free : (number : ℕ) (some : Bool) → number < 2 ^ 64 → HasNoEscape (if some then codes ":" ++ decimal number else [])
-number_free number true small = free_append (codes ":") (decimal number) refl (decimal_free number small)
-number_free number false small = refl
+label_free : (label : Option (List ℕ)) → HasNoEscape (label_text label)
+label_free None = refl
+label_free (Some label) = visible_free false label
 
-place_free : (name : List ℕ) (number : ℕ) → number < 2 ^ 64 → HasNoEscape (location_text name number)
-place_free name number small =
-    free_append (visible false name) (if nat_lt 0 number then codes ":" ++ decimal number else []) (visible_free false name) (number_free number (nat_lt 0 number) small)
+column_free : (column : ℕ) (some : Bool) → column < 2 ^ 64 → HasNoEscape (if some then codes ":" ++ decimal column else [])
+column_free column true small = free_append (codes ":") (decimal column) refl (decimal_free column small)
+column_free column false small = refl
+
+number_free : (number column : ℕ) (some : Bool) → number < 2 ^ 64 → column < 2 ^ 64 → HasNoEscape (if some then codes ":" ++ (decimal number ++ column_text column) else [])
+number_free number column true small narrow =
+    free_append (codes ":") (decimal number ++ column_text column) refl
+    (free_append (decimal number) (column_text column) (decimal_free number small) (column_free column (nat_lt 0 column) narrow))
+number_free number column false small narrow = refl
+
+place_free : (place : Place) → HasNumbers place → HasNoEscape (location_text place)
+place_free place has =
+    free_append (label_text place.label) (visible false place.name ++ number_text place.number place.column) (label_free place.label)
+    (free_append (visible false place.name) (number_text place.number place.column) (visible_free false place.name)
+    (number_free place.number place.column (nat_lt 0 place.number) has.number has.column))
 
 comment_free : (comment : List ℕ) → HasNoEscape (comment_words comment)
 comment_free [] = refl
@@ -156,7 +170,8 @@ reasons_free spelled asked all small = free_drop (reason_parts spelled asked all
 
 entry_free : (line : Line) → line.number < 2 ^ 64 → HasNoEscape (entry_line line)
 entry_free line small =
-    three_free (codes "  ") (location_text line.file line.number) (codes ": " ++ (visible false line.text ++ 10 ∷ [])) refl (place_free line.file line.number small)
+    three_free (codes "  ") (location_text (line_place line.file line.number)) (codes ": " ++ (visible false line.text ++ 10 ∷ [])) refl
+    (place_free (line_place line.file line.number) (record { number = small; column = omega arith }))
     (three_free (codes ": ") (visible false line.text) (10 ∷ []) refl (visible_free false line.text) refl)
 
 entries_free : (lines : List Line) → AllByRecursion (λ line. line.number < 2 ^ 64) lines → HasNoEscape (flat_map entry_line lines)
@@ -225,17 +240,17 @@ module _ (reads : ReadsJust string_at string (λ (text : List ℕ). length text 
       (three_free (type_of blob) (codes " ") (print_by Blob asked.plain) typed refl (print_free Blob asked.plain)) (reasons_free spelled asked answer.reasons small)
       (free_append (comment_words comment) (10 ∷ []) (comment_free comment) refl)
 
-  line_painted : (name blob comment : List ℕ) (number : ℕ) (asked : Subject) (answer : Answer) → number < 2 ^ 64 → IsBytes blob → IsSubject blob asked
-      → IsPainted (key_line false name number blob comment asked answer) (key_line true name number blob comment asked answer)
-  line_painted name blob comment number asked answer small bytes is =
-      verdict_painted (location_text name number) (key_words blob asked ++ (reasons_text (spelled_by Blob answer.explained) asked answer.reasons ++ (comment_words comment ++ 10 ∷ []))) (any_reason answer.reasons)
-      (place_free name number small) (key_tail_free blob comment asked answer (type_free blob asked bytes is) (small_serial blob asked is))
+  line_painted : (place : Place) (blob comment : List ℕ) (asked : Subject) (answer : Answer) → HasNumbers place → IsBytes blob → IsSubject blob asked
+      → IsPainted (key_line false place blob comment asked answer) (key_line true place blob comment asked answer)
+  line_painted place blob comment asked answer has bytes is =
+      verdict_painted (location_text place) (key_words blob asked ++ (reasons_text (spelled_by Blob answer.explained) asked answer.reasons ++ (comment_words comment ++ 10 ∷ []))) (any_reason answer.reasons)
+      (place_free place has) (key_tail_free blob comment asked answer (type_free blob asked bytes is) (small_serial blob asked is))
 
-  pub key_painted : (name blob comment : List ℕ) (number : ℕ) (asked : Subject) (answer : Answer) → number < 2 ^ 64 → HaveNumbers answer.explained → IsBytes blob → IsSubject blob asked
-      → IsPainted (key_text false name number blob comment asked answer) (key_text true name number blob comment asked answer)
-  key_painted name blob comment number asked answer small numbers bytes is =
-      followed (key_line false name number blob comment asked answer) (key_line true name number blob comment asked answer) (explained_if Blob asked answer.explained)
-      (line_painted name blob comment number asked answer small bytes is) (explained_free Blob asked answer.explained (small_serial blob asked is) numbers)
+  pub key_painted : (place : Place) (blob comment : List ℕ) (asked : Subject) (answer : Answer) → HasNumbers place → HaveNumbers answer.explained → IsBytes blob → IsSubject blob asked
+      → IsPainted (key_text false place blob comment asked answer) (key_text true place blob comment asked answer)
+  key_painted place blob comment asked answer has numbers bytes is =
+      followed (key_line false place blob comment asked answer) (key_line true place blob comment asked answer) (explained_if Blob asked answer.explained)
+      (line_painted place blob comment asked answer has bytes is) (explained_free Blob asked answer.explained (small_serial blob asked is) numbers)
 
 -- ---- why a line or a file is not read
 
@@ -314,9 +329,9 @@ why_free (whys.Private fault) small = free_append (codes "the private key file i
 why_free (whys.File refusal) small = refusal_free refusal
 why_free (whys.NoKeys lines) small = three_free (codes "none of its ") (decimal lines) (codes " lines is a key") refl (decimal_free lines small) refl
 
-pub unread_painted : (name : List ℕ) (number : ℕ) (why : Why) → number < 2 ^ 64 → IsCount why → IsPainted (unread_line false name number why) (unread_line true name number why)
-unread_painted name number why small few =
-    one_word (location_text name number) (why_text why ++ 10 ∷ []) (codes "33") (codes "unread") (place_free name number small) refl
+pub unread_painted : (place : Place) (why : Why) → HasNumbers place → IsCount why → IsPainted (unread_line false place why) (unread_line true place why)
+unread_painted place why has few =
+    one_word (location_text place) (why_text why ++ 10 ∷ []) (codes "33") (codes "unread") (place_free place has) refl
     (free_append (why_text why) (10 ∷ []) (why_free why few) refl)
 
 -- ---- lines that are only counted
@@ -345,6 +360,11 @@ kind_painted location tail line_kinds.Fine before after = one_word location tail
 kind_painted location tail line_kinds.Revoked before after = one_word location tail (codes "31") (codes "revoked") before refl after
 kind_painted location tail line_kinds.Unread before after = one_word location tail (codes "33") (codes "unread") before refl after
 
-pub more_painted : (name : List ℕ) (kind : LineKind) (lines : ℕ) → lines < 2 ^ 64 → IsPainted (more_line false name kind lines) (more_line true name kind lines)
-more_painted name kind lines few =
-    kind_painted (location_text name 0) (more_words kind lines ++ 10 ∷ []) kind (place_free name 0 (omega arith)) (free_append (more_words kind lines) (10 ∷ []) (more_words_free kind lines few) refl)
+pub more_painted : (place : Place) (kind : LineKind) (lines : ℕ) → HasNumbers place → lines < 2 ^ 64 → IsPainted (more_line false place kind lines) (more_line true place kind lines)
+more_painted place kind lines has few =
+    kind_painted (location_text place) (more_words kind lines ++ 10 ∷ []) kind (place_free place has) (free_append (more_words kind lines) (10 ∷ []) (more_words_free kind lines few) refl)
+
+-- ---- names of files that were audited before
+
+pub same_free : (place : Place) → HasNumbers place → HasNoEscape (same_line place)
+same_free place has = free_append (location_text place) (codes ": same: it was audited before\n") (place_free place has) refl

@@ -17,7 +17,8 @@ use Rattle.json.specs.Tree.{depth}
 use Rattle.json_lines.specs.Field.{Field, number_field, text_field, word_field}
 use Rattle.json_lines.proofs.Shallow.{FieldsFit, Fits, ValuesFit, array_fits, deeper, digits_fit, fields_fit, number_fits, object_fits, text_fits, values_fit, word_fits}
 use Rattle.audit_text.specs.More.{kind_word, more_fields, more_object, more_words, why_more}
-use Rattle.audit_text.specs.Objects.{all_authorities, authority_fields, by_value, cert_field, cert_fields, cert_names, front_fields, front_word, id_field, id_value, key_fields, key_object, line_fields, list_fields, location_fields, marker_fields, entry_value, explained_fields}
+use Rattle.audit_text.specs.Objects.{all_authorities, authority_fields, by_value, cert_field, cert_fields, cert_names, column_fields, front_fields, front_word, id_field, id_value, key_fields, key_object, label_fields, line_fields, list_fields, location_fields, marker_fields, entry_value, explained_fields, number_fields}
+use Rattle.audit_text.specs.Place.{HasNumbers, Place, line_place}
 use Rattle.audit_text.specs.Objects.{name_fields, of_value, reason_value, reason_values, reasons_field, serial_field, serial_value, status_word, unread_object}
 use Rattle.audit_lines.specs.FaultText.{why_fault, why_fields}
 use Rattle.audit_lines.specs.Outcome.{Found}
@@ -92,17 +93,31 @@ reasons_fit spelled asked all = array_fits 1 (reason_values spelled asked all) (
 
 -- ---- fields
 
-line_fits : (deep number : ℕ) (test : Bool) → number < 2 ^ 64 → FieldsFit deep (if test then number_field (codes "line") number ∷ [] else [])
-line_fits deep number true small = (number_fits deep (codes "line") number small, tt)
-line_fits deep number false small = tt
+column_fits : (deep column : ℕ) (test : Bool) → column < 2 ^ 64 → FieldsFit deep (if test then number_field (codes "column") column ∷ [] else [])
+column_fits deep column true small = (number_fits deep (codes "column") column small, tt)
+column_fits deep column false small = tt
 
-pub place_fits : (deep : ℕ) (name : List ℕ) (number : ℕ) → number < 2 ^ 64 → FieldsFit deep (location_fields name number)
-place_fits deep name number small = (word_fits deep (codes "file") name, line_fits deep number (nat_lt 0 number) small)
+number_fit : (deep number column : ℕ) (test : Bool) → number < 2 ^ 64 → column < 2 ^ 64 → FieldsFit deep (if test then number_field (codes "line") number ∷ column_fields column else [])
+number_fit deep number column true small narrow = (number_fits deep (codes "line") number small, column_fits deep column (nat_lt 0 column) narrow)
+number_fit deep number column false small narrow = tt
+
+pub label_fits : (deep : ℕ) (label : Option (List ℕ)) → FieldsFit deep (label_fields label)
+label_fits deep None = tt
+label_fits deep (Some label) = (word_fits deep (codes "label") label, tt)
+
+pub place_fits : (deep : ℕ) (place : Place) → HasNumbers place → FieldsFit deep (location_fields place)
+place_fits deep place has =
+    fields_fit deep (label_fields place.label) (word_field (codes "file") place.name ∷ number_fields place.number place.column) (label_fits deep place.label)
+    (word_fits deep (codes "file") place.name, number_fit deep place.number place.column (nat_lt 0 place.number) has.number has.column)
+
+-- a line of a text has its number, and no column
+numbers_of_line : (line : Line) → line.number < 2 ^ 64 → HasNumbers (line_place line.file line.number)
+numbers_of_line line small = record { number = small; column = omega arith }
 
 entry_fits : (line : Line) → line.number < 2 ^ 64 → Fits 1 (entry_value line)
 entry_fits line small =
-    object_fits 0 (location_fields line.file line.number ++ text_field (codes "text") line.text ∷ [])
-    (fields_fit 0 (location_fields line.file line.number) (text_field (codes "text") line.text ∷ []) (place_fits 0 line.file line.number small) (text_fits 0 (codes "text") line.text, tt))
+    object_fits 0 (location_fields (line_place line.file line.number) ++ text_field (codes "text") line.text ∷ [])
+    (fields_fit 0 (location_fields (line_place line.file line.number)) (text_field (codes "text") line.text ∷ []) (place_fits 0 (line_place line.file line.number) (numbers_of_line line small)) (text_fits 0 (codes "text") line.text, tt))
 
 entries_fit : (lines : List Line) → AllByRecursion (λ line. line.number < 2 ^ 64) lines → ValuesFit 1 (map entry_value lines)
 entries_fit [] small = tt
@@ -138,20 +153,20 @@ list_fits by asked answer small =
 
 -- ---- objects
 
-pub key_object_fits : (name : List ℕ) (number : ℕ) (found : Found) (answer : Answer) → number < 2 ^ 64 → HaveNumbers answer.explained → Fits 3 (key_object name number found answer)
-key_object_fits name number found answer small numbers =
-    let location = location_fields name number in
+pub key_object_fits : (place : Place) (found : Found) (answer : Answer) → HasNumbers place → HaveNumbers answer.explained → Fits 3 (key_object place found answer)
+key_object_fits place found answer has numbers =
+    let location = location_fields place in
     let key = key_fields found.blob found.comment found.asked answer.reasons in
     let line = line_fields found.marker found.hosts found.front in
     let list = list_fields Blob found.asked answer in
     let line_fit = fields_fit 2 (marker_fields found.marker) (front_fields found.hosts found.front) (marker_fits found.marker) (front_fits found.hosts found.front) in
     object_fits 2 (location ++ (key ++ (line ++ list)))
-    (fields_fit 2 location (key ++ (line ++ list)) (place_fits 2 name number small)
+    (fields_fit 2 location (key ++ (line ++ list)) (place_fits 2 place has)
     (fields_fit 2 key (line ++ list) (key_fits found.blob found.comment found.asked answer.reasons) (fields_fit 2 line list line_fit (list_fits Blob found.asked answer numbers))))
 
-pub unread_object_fits : (name : List ℕ) (number : ℕ) (why : Why) → number < 2 ^ 64 → Fits 3 (unread_object name number why)
-unread_object_fits name number why small =
-    object_fits 2 (location_fields name number ++ why_fields why) (fields_fit 2 (location_fields name number) (why_fields why) (place_fits 2 name number small)
+pub unread_object_fits : (place : Place) (why : Why) → HasNumbers place → Fits 3 (unread_object place why)
+unread_object_fits place why has =
+    object_fits 2 (location_fields place ++ why_fields why) (fields_fit 2 (location_fields place) (why_fields why) (place_fits 2 place has)
     (word_fits 2 (codes "status") (codes "unread"), (word_fits 2 (codes "fault") (why_fault why), (text_fits 2 (codes "why") (why_text why), tt))))
 
 why_more_fits : (kind : LineKind) (lines : ℕ) → FieldsFit 2 (why_more kind lines)
@@ -161,14 +176,16 @@ why_more_fits kinds.Fine lines = tt
 why_more_fits kinds.Revoked lines = tt
 why_more_fits kinds.Unread lines = (text_fits 2 (codes "why") (more_words kinds.Unread lines), tt)
 
-pub more_object_fits : (name : List ℕ) (kind : LineKind) (lines : ℕ) → lines < 2 ^ 64 → Fits 3 (more_object name kind lines)
-more_object_fits name kind lines few =
-    object_fits 2 (more_fields name kind lines)
-    (word_fits 2 (codes "file") name, (word_fits 2 (codes "status") (kind_word kind), (number_fits 2 (codes "count") lines few, why_more_fits kind lines)))
+pub more_object_fits : (place : Place) (kind : LineKind) (lines : ℕ) → HasNumbers place → lines < 2 ^ 64 → Fits 3 (more_object place kind lines)
+more_object_fits place kind lines has few =
+    object_fits 2 (more_fields place kind lines)
+    (fields_fit 2 (location_fields place) (word_field (codes "status") (kind_word kind) ∷ number_field (codes "count") lines ∷ why_more kind lines) (place_fits 2 place has)
+    (word_fits 2 (codes "status") (kind_word kind), (number_fits 2 (codes "count") lines few, why_more_fits kind lines)))
 
-pub same_object_fits : (name : List ℕ) → Fits 3 (same_object name)
-same_object_fits name =
-    object_fits 2 (same_fields name) (word_fits 2 (codes "file") name, (word_fits 2 (codes "status") (codes "same"), tt))
+pub same_object_fits : (place : Place) → HasNumbers place → Fits 3 (same_object place)
+same_object_fits place has =
+    object_fits 2 (same_fields place)
+    (fields_fit 2 (location_fields place) (word_field (codes "status") (codes "same") ∷ []) (place_fits 2 place has) (word_fits 2 (codes "status") (codes "same"), tt))
 
 pub shallow : (value : Json) → Fits 3 value → depth value ≤ max_depth
 shallow value fit =

@@ -2,6 +2,7 @@ pub mod Answer
 pub mod Text
 pub mod More
 pub mod Objects
+pub mod Place
 pub mod Print
 pub mod Said
 pub mod Colour

@@ -4,6 +4,8 @@ use Rattle.json.specs.Json.{Json}
 use Rattle.json_lines.specs.Field.{Field, json_line, number_field, object_of, text_field}
 use Rattle.json_lines.specs.Field.{word_field}
 use Rattle.audit_text.specs.Colour.{unread_word, verdict_word}
+use Rattle.audit_text.specs.Objects.{location_fields}
+use Rattle.audit_text.specs.Place.{Place}
 use Rattle.audit_text.specs.Text.{location_text}
 use Rattle.audit_text.specs.declared.line_kind.LineKind.{LineKind}
 use Rattle.audit_text.specs.declared.line_kind.LineKind.TheVariants as kinds
@@ -33,25 +35,26 @@ abbrev pub more_words : LineKind → ℕ → List ℕ
 more_words kind lines =
     codes "and " ++ (decimal lines ++ (are_more (lines == 1) ++ kind_word kind))
 
-abbrev pub more_line : Bool → List ℕ → LineKind → ℕ → List ℕ
-more_line coloured name kind lines =
-    location_text name 0 ++ (kind_mark coloured kind ++ (more_words kind lines ++ 10 ∷ []))
+abbrev pub more_line : Bool → Place → LineKind → ℕ → List ℕ
+more_line coloured place kind lines =
+    location_text place ++ (kind_mark coloured kind ++ (more_words kind lines ++ 10 ∷ []))
 
 -- the words for lines that are not read
 abbrev pub why_more : LineKind → ℕ → List Field
 why_more kinds.Unread lines = text_field (codes "why") (more_words kinds.Unread lines) ∷ []
 why_more _ lines = []
 
-abbrev pub more_fields : List ℕ → LineKind → ℕ → List Field
-more_fields name kind lines =
-    word_field (codes "file") name ∷ word_field (codes "status") (kind_word kind)
+abbrev pub more_fields : Place → LineKind → ℕ → List Field
+more_fields place kind lines =
+    location_fields place
+    ++ word_field (codes "status") (kind_word kind)
     ∷ number_field (codes "count") lines ∷ why_more kind lines
 
-abbrev pub more_object : List ℕ → LineKind → ℕ → Json
-more_object name kind lines = object_of (more_fields name kind lines)
+abbrev pub more_object : Place → LineKind → ℕ → Json
+more_object place kind lines = object_of (more_fields place kind lines)
 
 -- the line for people, or the JSON object
-abbrev pub more_said : Format → List ℕ → LineKind → ℕ → List ℕ
-more_said formats.Text name kind lines = more_line false name kind lines
-more_said formats.Colour name kind lines = more_line true name kind lines
-more_said formats.Json name kind lines = json_line (more_object name kind lines)
+abbrev pub more_said : Format → Place → LineKind → ℕ → List ℕ
+more_said formats.Text place kind lines = more_line false place kind lines
+more_said formats.Colour place kind lines = more_line true place kind lines
+more_said formats.Json place kind lines = json_line (more_object place kind lines)

@@ -15,6 +15,7 @@ use Rattle.krl_entries.specs.declared.reasons.Reason.TheVariants as reasons
 use Rattle.krl_entries.specs.declared.reasons.Reasons.{Reasons}
 use Rattle.audit_lines.specs.Outcome.{Found}
 use Rattle.audit_text.specs.Answer.{Answer}
+use Rattle.audit_text.specs.Place.{Place, line_place}
 use Rattle.audit_text.specs.Print.{Spelled, print_by, spelled_by}
 use Rattle.audit_text.specs.Text.{type_of}
 use Rattle.audit_lines.specs.FaultText.{why_fields}
@@ -22,11 +23,25 @@ use Rattle.audit_lines.specs.declared.why.Why.{Why}
 use Rattle.text_index.specs.Explaining.{Explained}
 use Rattle.text_index.specs.NamingLines.{Line}
 
--- the name of a file, and the number of a line of it; 0 represents the whole file
-abbrev pub location_fields : List ℕ → ℕ → List Field
-location_fields name number =
-    word_field (codes "file") name
-    ∷ (if nat_lt 0 number then number_field (codes "line") number ∷ [] else [])
+-- the text of the user before a name, if there is one
+abbrev pub label_fields : Option (List ℕ) → List Field
+label_fields None = []
+label_fields (Some label) = word_field (codes "label") label ∷ []
+
+abbrev pub column_fields : ℕ → List Field
+column_fields column =
+    if nat_lt 0 column then number_field (codes "column") column ∷ [] else []
+
+-- a line, and a column of it
+abbrev pub number_fields : (number column : ℕ) → List Field
+number_fields number column =
+    if nat_lt 0 number then number_field (codes "line") number ∷ column_fields column else []
+
+-- a file, a line of it, or a column of a line
+abbrev pub location_fields : Place → List Field
+location_fields place =
+    label_fields place.label
+    ++ word_field (codes "file") place.name ∷ number_fields place.number place.column
 
 -- ---- reasons
 
@@ -134,7 +149,8 @@ reasons_field spelled asked all =
 -- a line of a text, with its place
 abbrev pub entry_value : Line → Json
 entry_value line =
-    object_of (location_fields line.file line.number ++ text_field (codes "text") line.text ∷ [])
+    object_of (location_fields (line_place line.file line.number)
+    ++ text_field (codes "text") line.text ∷ [])
 
 -- the lines of texts that explain, and the reasons that none gives
 abbrev pub explained_fields : KeysBy → Subject → Option Explained → List Field
@@ -152,14 +168,14 @@ list_fields by asked answer =
     ∷ explained_fields by asked answer.explained
 
 -- the object of a key, revoked or not
-abbrev pub key_object : List ℕ → ℕ → Found → Answer → Json
-key_object name number found answer =
-    object_of (location_fields name number
+abbrev pub key_object : Place → Found → Answer → Json
+key_object place found answer =
+    object_of (location_fields place
     ++ (key_fields found.blob found.comment found.asked answer.reasons
     ++ (line_fields found.marker found.hosts found.front ++ list_fields Blob found.asked answer)))
 
 -- ---- lines and files that are not read
 
 -- the object of a line or file that is not read: it has no text of the line itself
-abbrev pub unread_object : List ℕ → ℕ → Why → Json
-unread_object name number why = object_of (location_fields name number ++ why_fields why)
+abbrev pub unread_object : Place → Why → Json
+unread_object place why = object_of (location_fields place ++ why_fields why)

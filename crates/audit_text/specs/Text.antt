@@ -12,6 +12,7 @@ use Rattle.krl_entries.specs.declared.reasons.Reason.TheVariants as reasons
 use Rattle.krl_entries.specs.declared.reasons.Reasons.{Reasons}
 use Rattle.audit_text.specs.Answer.{Answer}
 use Rattle.audit_text.specs.Colour.{unread_word, verdict_word}
+use Rattle.audit_text.specs.Place.{Place, line_place}
 use Rattle.audit_text.specs.Print.{Spelled, authority_words, print_by, spelled_by}
 use Rattle.line_pieces.specs.Visible.{visible}
 use Rattle.text_index.specs.Explaining.{Explained}
@@ -19,10 +20,24 @@ use Rattle.text_index.specs.NamingLines.{Line}
 use Rattle.audit_lines.specs.Why.{why_text}
 use Rattle.audit_lines.specs.declared.why.Why.{Why}
 
--- the name of a file, and the number of a line of it; 0 represents the whole file
-abbrev pub location_text : List ℕ → ℕ → List ℕ
-location_text name number =
-    visible false name ++ (if nat_lt 0 number then codes ":" ++ decimal number else [])
+-- the text of the user before a name, if there is one
+abbrev pub label_text : Option (List ℕ) → List ℕ
+label_text None = []
+label_text (Some label) = visible false label
+
+abbrev pub column_text : ℕ → List ℕ
+column_text column = if nat_lt 0 column then codes ":" ++ decimal column else []
+
+-- a line, and a column of it
+abbrev pub number_text : (number column : ℕ) → List ℕ
+number_text number column =
+    if nat_lt 0 number then codes ":" ++ (decimal number ++ column_text column) else []
+
+-- a file, a line of it, or a column of a line
+abbrev pub location_text : Place → List ℕ
+location_text place =
+    label_text place.label
+    ++ (visible false place.name ++ number_text place.number place.column)
 
 -- ---- reasons
 
@@ -64,7 +79,7 @@ reasons_text spelled asked all = drop 1 (reason_parts spelled asked all)
 -- a line of a text, with its place
 abbrev pub entry_line : Line → List ℕ
 entry_line line =
-    codes "  " ++ (location_text line.file line.number
+    codes "  " ++ (location_text (line_place line.file line.number)
     ++ (codes ": " ++ (visible false line.text ++ 10 ∷ [])))
 
 -- the reasons that no line gives
@@ -102,21 +117,21 @@ comment_words [] = []
 comment_words (byte ∷ bytes) = codes ": " ++ visible false (byte ∷ bytes)
 
 -- the line of a key, revoked or not, in colour or not
-abbrev pub key_line : Bool → List ℕ → ℕ → (blob comment : List ℕ) → Subject → Answer → List ℕ
-key_line coloured name number blob comment asked answer =
-    location_text name number
+abbrev pub key_line : Bool → Place → (blob comment : List ℕ) → Subject → Answer → List ℕ
+key_line coloured place blob comment asked answer =
+    location_text place
     ++ (verdict_word coloured (any_reason answer.reasons)
     ++ (key_words blob asked
     ++ (reasons_text (spelled_by Blob answer.explained) asked answer.reasons
     ++ (comment_words comment ++ 10 ∷ []))))
 
 -- the line of a key, and the lines of texts that explain it
-abbrev pub key_text : Bool → List ℕ → ℕ → (blob comment : List ℕ) → Subject → Answer → List ℕ
-key_text coloured name number blob comment asked answer =
-    key_line coloured name number blob comment asked answer
+abbrev pub key_text : Bool → Place → (blob comment : List ℕ) → Subject → Answer → List ℕ
+key_text coloured place blob comment asked answer =
+    key_line coloured place blob comment asked answer
     ++ explained_if Blob asked answer.explained
 
 -- the line for a line or file that is not read, in colour or not
-abbrev pub unread_line : Bool → List ℕ → ℕ → Why → List ℕ
-unread_line coloured name number why =
-    location_text name number ++ (unread_word coloured ++ (why_text why ++ 10 ∷ []))
+abbrev pub unread_line : Bool → Place → Why → List ℕ
+unread_line coloured place why =
+    location_text place ++ (unread_word coloured ++ (why_text why ++ 10 ∷ []))

@@ -9,10 +9,10 @@ ghost use Rattle.audit_text.specs.Objects.{entry_value, explained_fields};
 ghost use Rattle.audit_text.specs.Print.{spelled_by, spelled_of};
 ghost use Rattle.audit_text.specs.Text.{entry_line, explained_text, unnamed_line};
 
+use crate::place::Location;
 use crate::print::{Spelling, name_in};
 use crate::reason_values::ReasonsOf;
 use crate::reasons::ReasonWords;
-use crate::text::Location;
 use json_lines::{Array, Fields, LineWriter, Text, Values, put_fields, put_object};
 use krl_entries::Reasons;
 use krl_fingerprints::KeysBy;
@@ -64,7 +64,7 @@ fn push_line(text: &mut Vec<u8>, line: TextLine<'_>) -> Result<(), AllocError>
         number,
         text: bytes,
     } = line;
-    put!(text; b"  ", Location { name, number }, b": ", Visible(bytes, false), b"\n")
+    put!(text; b"  ", Location::line(name, number), b": ", Visible(bytes, false), b"\n")
 }
 
 // Appends the line that says which reasons no line gives.
@@ -136,5 +136,5 @@ fn put_line(alloc: Global, line: TextLine<'_>, out: &mut LineWriter) -> Result<(
         number,
         text,
     } = line;
-    put_object!(alloc, out; Location { name, number }, "text": Text(text))
+    put_object!(alloc, out; Location::line(name, number), "text": Text(text))
 }

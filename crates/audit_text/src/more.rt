@@ -5,11 +5,12 @@ ghost use Rattle.json_lines.specs.Field.{json_line};
 ghost use Rattle.audit_text.specs.Colour.{word_text};
 ghost use Rattle.audit_text.specs.More.{are_more, kind_mark, kind_word, more_line};
 ghost use Rattle.audit_text.specs.More.{more_object, more_said, more_words, why_more};
+ghost use Rattle.audit_text.specs.Place.{place_of};
 
 use crate::colour::{Mark, unread_mark, verdict_mark};
 use crate::format::Format;
 use crate::line_kind::LineKind;
-use crate::text::Location;
+use crate::place::Location;
 use json_lines::{Fields, LineWriter, Text, object, put_fields};
 use line_pieces::{Printed, Words, put};
 use std::alloc::{AllocError, Global};
@@ -36,39 +37,44 @@ impl Printed for More {
 /// Makes the line about them.
 pub fn write_more(
     form: Format,
-    name: &str,
+    location: Location<'_, '_>,
     more: More,
     line: &mut Vec<u8>,
 ) -> Result<(), AllocError>
-    ensures { OnOk result (line.new.items ≡ more_said form name.now more.kind more.lines) }
+    ensures { OnOk result (line.new.items
+        ≡ more_said form (place_of location.entry) more.kind more.lines) }
 {
     match form {
-        Format::Text => write_more_line(false, name, more, line),
-        Format::Colour => write_more_line(true, name, more, line),
-        Format::Json => write_more_object(name, more, line),
+        Format::Text => write_more_line(false, location, more, line),
+        Format::Colour => write_more_line(true, location, more, line),
+        Format::Json => write_more_object(location, more, line),
     }
 }
 
 // Makes the line in words, in colour or not.
 fn write_more_line(
     coloured: bool,
-    name: &str,
+    location: Location<'_, '_>,
     more: More,
     line: &mut Vec<u8>,
 ) -> Result<(), AllocError>
     ensures { OnOk result (line.new.items
-        ≡ more_line coloured name.now more.kind more.lines) }
+        ≡ more_line coloured (place_of location.entry) more.kind more.lines) }
 {
     line.clear();
-    put!(line; Location { name, number: 0 }, kind_mark(coloured, more.kind), more, b"\n")
+    put!(line; location, kind_mark(coloured, more.kind), more, b"\n")
 }
 
 // Makes the object.
-fn write_more_object(name: &str, more: More, line: &mut Vec<u8>) -> Result<(), AllocError>
+fn write_more_object(
+    location: Location<'_, '_>,
+    more: More,
+    line: &mut Vec<u8>,
+) -> Result<(), AllocError>
     ensures { OnOk result (line.new.items
-        ≡ json_line (more_object name.now more.kind more.lines)) }
+        ≡ json_line (more_object (place_of location.entry) more.kind more.lines)) }
 {
-    object!(line; "file": name, "status": kind_word(more.kind), "count": more.lines, more)
+    object!(line; location, "status": kind_word(more.kind), "count": more.lines, more)
 }
 
 // The words about lines that are not read.

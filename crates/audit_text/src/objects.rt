@@ -5,16 +5,17 @@ ghost use Rattle.key_text.specs.Marker.{marker_word};
 ghost use Rattle.krl_entries.specs.Reasons.{any_reason};
 ghost use Rattle.json_lines.specs.Field.{json_line, text_field};
 ghost use Rattle.audit_text.specs.Objects.{cert_fields, front_fields, front_word, key_object};
-ghost use Rattle.audit_text.specs.Objects.{location_fields, marker_fields, status_word};
-ghost use Rattle.audit_text.specs.Objects.{unread_object};
+ghost use Rattle.audit_text.specs.Objects.{marker_fields, status_word, unread_object};
+ghost use Rattle.audit_text.specs.Place.{place_of};
 ghost use Rattle.audit_text.specs.Print.{print_by};
 ghost use Rattle.audit_text.specs.Verdict.{answer_of};
 ghost use Rattle.audit_lines.specs.Outcome.{found_as};
 
 use crate::explained::ExplainedOf;
+use crate::place::Location;
 use crate::print::{KeyPrint, Spelling};
 use crate::reason_values::ReasonsOf;
-use crate::text::{Location, Verdict, type_of};
+use crate::text::{Verdict, type_of};
 use audit_lines::Why;
 use json_lines::{
     Array, Digits, Fields, LineWriter, Named, Object, Text, Value, fields, object, put_fields,
@@ -28,12 +29,12 @@ use std::alloc::{AllocError, Global};
 
 /// Makes the line of a key.
 pub(crate) fn write_key_object(
-    location: Location<'_>,
+    location: Location<'_, '_>,
     verdict: &Verdict<'_>,
     line: &mut Vec<u8>,
 ) -> Result<(), AllocError>
     ensures { OnOk result (line.new.items
-        ≡ json_line (key_object location.entry.name.now location.entry.number
+        ≡ json_line (key_object (place_of location.entry)
         (found_as verdict.now.found.now verdict.now.subject.now) (answer_of verdict.now))) }
 {
     let subject = verdict.subject;
@@ -52,26 +53,14 @@ pub(crate) fn write_key_object(
 
 /// Makes the line for a line or file that is not read.
 pub(crate) fn write_unread_object(
-    location: Location<'_>,
+    location: Location<'_, '_>,
     why: Why,
     line: &mut Vec<u8>,
 ) -> Result<(), AllocError>
     ensures { OnOk result (line.new.items
-        ≡ json_line (unread_object location.entry.name.now location.entry.number why)) }
+        ≡ json_line (unread_object (place_of location.entry) why)) }
 {
     object!(line; location, why)
-}
-
-// The name of a file, and the number of a line of it.
-impl<'a> Fields for Location<'a> {
-    ghost fields = { λ location. location_fields location.name.now location.number };
-
-    fn put_fields(&self, alloc: Global, out: &mut LineWriter) -> Result<(), AllocError> {
-        if self.number > 0 {
-            return put_fields!(alloc, out; "file": self.name, "line": self.number);
-        }
-        put_fields!(alloc, out; "file": self.name)
-    }
 }
 
 /// The fingerprint of a key that is given so.

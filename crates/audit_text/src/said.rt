@@ -1,13 +1,15 @@
 //! The lines of findings, for people or as JSON objects.
 
 ghost use Rattle.std.specs.Prelude.{◌≡◌, OnOk};
+ghost use Rattle.audit_text.specs.Place.{place_of};
 ghost use Rattle.audit_text.specs.Said.{key_said, unread_said};
 ghost use Rattle.audit_text.specs.Verdict.{answer_of};
 ghost use Rattle.audit_lines.specs.Outcome.{found_as};
 
 use crate::format::Format;
 use crate::objects::{write_key_object, write_unread_object};
-use crate::text::{Location, Verdict, write_key, write_unread};
+use crate::place::Location;
+use crate::text::{Verdict, write_key, write_unread};
 use audit_lines::Why;
 use std::alloc::{AllocError, Global};
 
@@ -15,12 +17,12 @@ use std::alloc::{AllocError, Global};
 pub fn say_key(
     alloc: Global,
     form: Format,
-    location: Location<'_>,
+    location: Location<'_, '_>,
     verdict: &Verdict<'_>,
     line: &mut Vec<u8>,
 ) -> Result<(), AllocError>
     ensures { OnOk result (line.new.items
-        ≡ key_said form location.entry.name.now location.entry.number
+        ≡ key_said form (place_of location.entry)
         (found_as verdict.now.found.now verdict.now.subject.now) (answer_of verdict.now)) }
 {
     match form {
@@ -34,12 +36,12 @@ pub fn say_key(
 pub fn say_unread(
     alloc: Global,
     form: Format,
-    location: Location<'_>,
+    location: Location<'_, '_>,
     why: Why,
     line: &mut Vec<u8>,
 ) -> Result<(), AllocError>
     ensures { OnOk result (line.new.items
-        ≡ unread_said form location.entry.name.now location.entry.number why) }
+        ≡ unread_said form (place_of location.entry) why) }
 {
     match form {
         Format::Text => write_unread(alloc, false, location, why, line),

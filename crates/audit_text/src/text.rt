@@ -1,12 +1,14 @@
 //! The lines of findings.
 
 ghost use Rattle.std.specs.Prelude.{◌≡◌, OnOk};
-ghost use Rattle.audit_text.specs.Text.{comment_words, key_line, key_text, location_text};
-ghost use Rattle.audit_text.specs.Text.{type_of, unread_line};
+ghost use Rattle.audit_text.specs.Place.{place_of};
+ghost use Rattle.audit_text.specs.Text.{comment_words, key_line, key_text, type_of};
+ghost use Rattle.audit_text.specs.Text.{unread_line};
 ghost use Rattle.audit_text.specs.Verdict.{answer_of};
 
 use crate::colour::{unread_mark, verdict_mark};
 use crate::explained::push_explained;
+use crate::place::Location;
 use crate::print::{KeyPrint, Spelling};
 use crate::reasons::ReasonWords;
 use audit_lines::{Found, Told, Why};
@@ -17,16 +19,6 @@ use line_pieces::{Printed, Visible, Words, pieces, put};
 use ssh_wire::Cursor;
 use std::alloc::{AllocError, Global};
 use text_index::Explanation;
-
-/// The location of a line: the name of its file, and its number from 1 on; 0 represents the whole
-/// file.
-#[derive(Clone, Copy)]
-pub struct Location<'a> {
-    /// The name of the file.
-    pub name: &'a str,
-    /// The number of the line, or 0.
-    pub number: u64,
-}
 
 /// The facts about a key: its bytes, the query for it, and the answer.
 #[derive(Clone, Copy)]
@@ -39,18 +31,6 @@ pub struct Verdict<'a> {
     pub reasons: Reasons,
     /// The lines of texts that give these reasons, if texts are given.
     pub explanation: &'a Option<Explanation<'a>>,
-}
-
-impl<'a> Printed for Location<'a> {
-    ghost text = { λ location. location_text location.name.now location.number };
-
-    fn push_to(&self, out: &mut Vec<u8>) -> Result<(), AllocError> {
-        put!(out; Visible(self.name.as_bytes(), false))?;
-        if self.number > 0 {
-            put!(out; b":", self.number)?;
-        }
-        Ok(())
-    }
 }
 
 // A comment, if there is one.
@@ -72,12 +52,12 @@ impl<'a> Printed for Comment<'a> {
 pub(crate) fn write_unread(
     alloc: Global,
     coloured: bool,
-    location: Location<'_>,
+    location: Location<'_, '_>,
     why: Why,
     line: &mut Vec<u8>,
 ) -> Result<(), AllocError>
     ensures { OnOk result (line.new.items
-        ≡ unread_line coloured location.entry.name.now location.entry.number why) }
+        ≡ unread_line coloured (place_of location.entry) why) }
 {
     line.clear();
     put!(line; location, unread_mark(coloured), Told { alloc, why }, b"\n")
@@ -87,12 +67,12 @@ pub(crate) fn write_unread(
 pub(crate) fn write_key(
     alloc: Global,
     coloured: bool,
-    location: Location<'_>,
+    location: Location<'_, '_>,
     verdict: &Verdict<'_>,
     line: &mut Vec<u8>,
 ) -> Result<(), AllocError>
-    ensures { OnOk result (line.new.items ≡ key_text coloured location.entry.name.now
-        location.entry.number verdict.now.found.now.blob verdict.now.found.now.comment.now
+    ensures { OnOk result (line.new.items ≡ key_text coloured (place_of location.entry)
+        verdict.now.found.now.blob verdict.now.found.now.comment.now
         verdict.now.subject.now (answer_of verdict.now)) }
 {
     write_key_line(alloc, coloured, location, verdict, line)?;
@@ -112,12 +92,12 @@ pub(crate) fn write_key(
 fn write_key_line(
     alloc: Global,
     coloured: bool,
-    location: Location<'_>,
+    location: Location<'_, '_>,
     verdict: &Verdict<'_>,
     line: &mut Vec<u8>,
 ) -> Result<(), AllocError>
-    ensures { OnOk result (line.new.items ≡ key_line coloured location.entry.name.now
-        location.entry.number verdict.now.found.now.blob verdict.now.found.now.comment.now
+    ensures { OnOk result (line.new.items ≡ key_line coloured (place_of location.entry)
+        verdict.now.found.now.blob verdict.now.found.now.comment.now
         verdict.now.subject.now (answer_of verdict.now)) }
 {
     let by = KeysBy::Blob;

@@ -22,9 +22,10 @@ error_text why usage =
 
 abbrev pub audit_usage : List ℕ
 audit_usage =
-    codes "audit [-f <krl>] [-t <text>] [-aqx] [--all] [--canary <file>] [--exclude <name>]"
-    ++ (codes " [--json] [--files0-from <file>] [--sshd <file>] [--passwd <file>]"
-    ++ codes " [--command-output <file>] [file|directory]...")
+    codes "audit [-f <krl>] [-t <text>] [-aqx] [--all] [--scan] [--canary <file>]"
+    ++ (codes " [--exclude <name>] [--json] [--label <text>] [--files0-from <file>]"
+    ++ (codes " [--sshd <file>] [--passwd <file>] [--command-output <file>]"
+    ++ codes " [file|directory]..."))
 
 abbrev pub make_usage : List ℕ
 make_usage =

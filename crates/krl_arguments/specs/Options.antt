@@ -7,8 +7,8 @@ use Rattle.option_table.specs.Argument.{long_rule, long_value_rule, long_values_
 use Rattle.option_table.specs.Argument.{rule_by, some_words_rule, with_rules, word_rule, words_rule}
 use Rattle.krl_arguments.specs.declared.options.Subcommand.{Subcommand}
 
--- krl audit: -f, -t, -a, -q, -x, --all, --canary, --exclude, --json, --files0-from, --sshd,
--- --passwd, --command-output, and the files
+-- krl audit: -f, -t, -a, -q, -x, --all, --scan, --canary, --exclude, --json, --label, --files0-from,
+-- --sshd, --passwd, --command-output, and the files
 abbrev pub audit_rules : List Rule
 audit_rules =
     letter_value_rule (codes "list") 102
@@ -17,9 +17,11 @@ audit_rules =
     ∷ letter_rule (codes "quiet") 113
     ∷ letter_rule (codes "one-file-system") 120
     ∷ long_rule (codes "all")
+    ∷ long_rule (codes "scan")
     ∷ long_values_rule (codes "canary")
     ∷ long_values_rule (codes "exclude")
     ∷ long_rule (codes "json")
+    ∷ long_value_rule (codes "label")
     ∷ long_value_rule (codes "files0-from")
     ∷ long_values_rule (codes "sshd")
     ∷ long_value_rule (codes "passwd")

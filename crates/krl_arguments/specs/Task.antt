@@ -23,16 +23,18 @@ use Rattle.krl_arguments.specs.declared.task.Show.{Show as ShowOf}
 use Rattle.krl_arguments.specs.declared.task.Task.{Task as TaskOf}
 use Rattle.krl_arguments.specs.declared.task.Task.TheVariants as tasks
 
--- an audit: the list, the texts, whether -a, --all, -q, --json and -x are given, the canaries, the
--- names that are excluded, the file of names, the outputs of sshd -T, the file of users, the outputs
--- of sshd's command, and the files
+-- an audit: the list, the texts, whether -a, --all, --scan, -q and --json are given, the text before
+-- each name, whether -x is given, the canaries, the names that are excluded, the file of names, the
+-- outputs of sshd -T, the file of users, the outputs of sshd's command, and the files
 pub record Audit : Type 0 where
   pub list : Option (List ℕ)
   pub texts : List (List ℕ)
   pub all : Bool
   pub every_file : Bool
+  pub scan : Bool
   pub quiet : Bool
   pub json : Bool
+  pub label : Option (List ℕ)
   pub one_file_system : Bool
   pub canary : List (List ℕ)
   pub exclude : List (List ℕ)
@@ -97,8 +99,10 @@ audit_with rows = record {
   texts = values_in (codes "texts") rows;
   all = is_set (codes "fine") rows;
   every_file = is_set (codes "all") rows;
+  scan = is_set (codes "scan") rows;
   quiet = is_set (codes "quiet") rows;
   json = is_set (codes "json") rows;
+  label = first_of (codes "label") rows;
   one_file_system = is_set (codes "one-file-system") rows;
   canary = values_in (codes "canary") rows;
   exclude = values_in (codes "exclude") rows;
@@ -283,8 +287,10 @@ audit_by audit = record {
   texts = map (λ name. name.now) audit.texts.items;
   all = audit.all;
   every_file = audit.every_file;
+  scan = audit.scan;
   quiet = audit.quiet;
   json = audit.json;
+  label = option_map (λ text. text.now) audit.label;
   one_file_system = audit.one_file_system;
   canary = map (λ name. name.now) audit.canary.items;
   exclude = map (λ name. name.now) audit.exclude.items;

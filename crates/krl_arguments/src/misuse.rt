@@ -75,9 +75,9 @@ For more information, try '--help'.
 
 const NOTHING_TO_AUDIT: &str = "error: a file, a directory, --files0-from or --sshd is needed
 
-Usage: krl audit [-f <krl>] [-t <text>] [-aqx] [--all] [--canary <file>] [--exclude <name>] \
-[--json] [--files0-from <file>] [--sshd <file>] [--passwd <file>] [--command-output <file>] \
-[file|directory]...
+Usage: krl audit [-f <krl>] [-t <text>] [-aqx] [--all] [--scan] [--canary <file>] \
+[--exclude <name>] [--json] [--label <text>] [--files0-from <file>] [--sshd <file>] \
+[--passwd <file>] [--command-output <file>] [file|directory]...
 
 For more information, try '--help'.
 ";
@@ -91,18 +91,18 @@ For more information, try '--help'.
 
 const EXCLUDES_PATH: &str = "error: --exclude takes the name of a file or a directory, not a path
 
-Usage: krl audit [-f <krl>] [-t <text>] [-aqx] [--all] [--canary <file>] [--exclude <name>] \
-[--json] [--files0-from <file>] [--sshd <file>] [--passwd <file>] [--command-output <file>] \
-[file|directory]...
+Usage: krl audit [-f <krl>] [-t <text>] [-aqx] [--all] [--scan] [--canary <file>] \
+[--exclude <name>] [--json] [--label <text>] [--files0-from <file>] [--sshd <file>] \
+[--passwd <file>] [--command-output <file>] [file|directory]...
 
 For more information, try '--help'.
 ";
 
 const WITHOUT_SSHD: &str = "error: --passwd and --command-output go with --sshd
 
-Usage: krl audit [-f <krl>] [-t <text>] [-aqx] [--all] [--canary <file>] [--exclude <name>] \
-[--json] [--files0-from <file>] [--sshd <file>] [--passwd <file>] [--command-output <file>] \
-[file|directory]...
+Usage: krl audit [-f <krl>] [-t <text>] [-aqx] [--all] [--scan] [--canary <file>] \
+[--exclude <name>] [--json] [--label <text>] [--files0-from <file>] [--sshd <file>] \
+[--passwd <file>] [--command-output <file>] [file|directory]...
 
 For more information, try '--help'.
 ";

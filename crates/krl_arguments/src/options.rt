@@ -20,7 +20,7 @@ pub struct Subcommand {
     arguments: &'static [Argument],
 }
 
-const AUDIT: [Argument; 14] = [
+const AUDIT: [Argument; 16] = [
     Argument {
         id: "list",
         syntax: Syntax::LetterValue('f', "krl"),
@@ -52,6 +52,11 @@ const AUDIT: [Argument; 14] = [
         help: "Read every regular file of a directory, whatever its name",
     },
     Argument {
+        id: "scan",
+        syntax: Syntax::Long,
+        help: "Find keys anywhere in the lines of every regular file",
+    },
+    Argument {
         id: "canary",
         syntax: Syntax::LongValues("file"),
         help: "Audit nothing unless the list revokes each key of this file",
@@ -65,6 +70,11 @@ const AUDIT: [Argument; 14] = [
         id: "json",
         syntax: Syntax::Long,
         help: "Print one JSON object on a line for each finding",
+    },
+    Argument {
+        id: "label",
+        syntax: Syntax::LongValue("text"),
+        help: "Print this text before the name of each finding",
     },
     Argument {
         id: "files0-from",

@@ -31,10 +31,14 @@ pub struct Audit<'a> {
     pub all: bool,
     /// True if every regular file of a directory is read, by `--all`.
     pub every_file: bool,
+    /// True if every regular file is read, and keys are found anywhere in its lines, by `--scan`.
+    pub scan: bool,
     /// True if nothing is printed on standard output, by `-q`.
     pub quiet: bool,
     /// True if findings are printed as JSON, by `--json`.
     pub json: bool,
+    /// The text before the name of each finding, by `--label`.
+    pub label: Option<&'a str>,
     /// True if the audit stays on the file system of each named directory, by `-x`.
     pub one_file_system: bool,
     /// The files of keys that the list must revoke, by `--canary`.

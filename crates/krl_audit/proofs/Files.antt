@@ -1,6 +1,5 @@
 -- The findings of whole files.
 use Rattle.std.proofs.Common.{◌≡◌, ℕ, ◌+◌, Bool, false, List, [], ◌∷◌, ◌++◌, length, Option, None, Some, Result, Ok, Err, refl, sym, ap, subst, ◌∙◌, arith}
-use Rattle.std.specs.Borrow.{Bor}
 use Rattle.std.specs.Prelude.{OnOk}
 use Rattle.std.specs.List.{slice_split}
 use Rattle.std.proofs.lemmas.List.Splits.{length-slice_split}
@@ -17,6 +16,7 @@ use Rattle.krl_audit.specs.Audit.{FileName, Told, ToldFile, file_items, file_kin
 use Rattle.audit_lines.specs.Keyless.{keyless}
 use Rattle.audit_lines.specs.Front.{fronts_of, is_read_by_lines}
 use Rattle.audit_lines.specs.Outcome.{Outcomes, Placed, Unread, place, place_all, place_second, placed_beside, placed_from, plain_lines, private_lines, private_outcome, opened_at, outcomes_of, read_all}
+use Rattle.krl_audit.specs.Scan.{scanned_lines}
 use Rattle.krl_audit.specs.Tally.{all_tallied, none_yet}
 use Rattle.krl_audit.specs.declared.counts.Counts.{Counts}
 use Rattle.audit_lines.specs.declared.front.Fronts.{Fronts}
@@ -97,15 +97,20 @@ told_no_memory answers shown name read_as text stop now before after is =
 
 -- ---- a file by its bytes
 
-pub told_refused : (answers : Subject → Answer) (shown : Shown) (name read_as : List ℕ) (refusal : Refusal) (result : Result Tally RunFault) (old new : Printer) (before after : Counts)
+pub told_refused : (answers : Subject → Answer) (shown : Shown) (name : List ℕ) (read_as : Option (List ℕ)) (refusal : Refusal) (result : Result Tally RunFault) (old new : Printer) (before after : Counts)
     → Told answers shown name none_yet (whole (whys.File refusal)) result old new before after → Told answers shown name none_yet (file_lines read_as (Err refusal)) result old new before after
 unfolding file_lines
 told_refused answers shown name read_as refusal result old new before after told = told
 
-pub told_text : (answers : Subject → Answer) (shown : Shown) (name read_as text : List ℕ) (container : Bool) (result : Result Tally RunFault) (old new : Printer) (before after : Counts)
-    → begins_container text ≡ container → Told answers shown name none_yet (text_lines container read_as text) result old new before after → Told answers shown name none_yet (file_lines read_as (Ok text)) result old new before after
+pub told_text : (answers : Subject → Answer) (shown : Shown) (name read_as text : List ℕ) (result : Result Tally RunFault) (old new : Printer) (before after : Counts)
+    → Told answers shown name none_yet (text_lines (begins_container text) read_as text) result old new before after → Told answers shown name none_yet (file_lines (Some read_as) (Ok text)) result old new before after
 unfolding file_lines
-told_text answers shown name read_as text container result old new before after is told = rw is told
+told_text answers shown name read_as text result old new before after told = told
+
+pub told_scanned : (answers : Subject → Answer) (shown : Shown) (name text : List ℕ) (result : Result Tally RunFault) (old new : Printer) (before after : Counts)
+    → Told answers shown name none_yet (scanned_lines text) result old new before after → Told answers shown name none_yet (file_lines None (Ok text)) result old new before after
+unfolding file_lines
+told_scanned answers shown name text result old new before after told = told
 
 -- one more line, and those after it
 pub told_next : (answers : Subject → Answer) (shown : Shown) (name : List ℕ) (kind : Fronts) (tally : Tally) (number : ℕ) (text line : List ℕ) (after : List (List ℕ)) (value : Tally) (result : Result Tally RunFault) (old mid new : Printer) (one two three : Counts)
@@ -121,10 +126,6 @@ pub told_cut : (answers : Subject → Answer) (shown : Shown) (name : List ℕ) 
 told_cut answers shown name kind tally number text line after stop old new one two other split first =
     subst (λ (lines : List (List ℕ)). Told answers shown name tally (placed_from number (read_all kind lines)) (Err stop) old new one other) (sym split)
     (told_stop answers shown name tally (place_all number (outcomes_of kind line)) (placed_from (number + 1) (read_all kind after)) stop old new one two other first)
-
-abbrev pub text_in : Result (Bor (List ℕ)) Refusal → List ℕ
-text_in (Ok text) = text.now
-text_in (Err refusal) = []
 
 -- ---- a private key, and what is beside it
 

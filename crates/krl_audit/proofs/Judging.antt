@@ -6,6 +6,7 @@ use Rattle.audit_text.specs.Answer.{Answer}
 use Rattle.krl_entries.specs.declared.reasons.Reasons.{Reasons}
 use Rattle.ssh_cert.specs.declared.subject_fault.SubjectFault.{SubjectFault}
 use Rattle.krl_audit.specs.Audit.{IsMade, JudgesAs, answer_by, judged_reasons, key_kind, kind_of, outcome_line, says}
+use Rattle.audit_text.specs.Place.{Place}
 use Rattle.audit_text.specs.Said.{key_said}
 use Rattle.text_index.specs.Explaining.{Explained, explained_by}
 use Rattle.audit_lines.specs.Outcome.{Key, Outcome, found_as}
@@ -31,12 +32,12 @@ pub answered : (judge : Judge) (answers : Subject → Answer) (judges : JudgesAs
 answered judge answers judges subject all explained tested is =
     ap (answer_with all) is ∙ ap (answer_by judges.texts subject) tested ∙ judges.answers_are subject
 
-pub key_made : (judge : Judge) (answers : Subject → Answer) (shown : Shown) (name : List ℕ) (number : ℕ) (found : KeyFound) (asked subject : Subject) (all : Reasons) (given : Outcome) (any : Bool) (kind : LineKind) (said : Bool) (line : List ℕ)
+pub key_made : (judge : Judge) (answers : Subject → Answer) (shown : Shown) (place : Place) (found : KeyFound) (asked subject : Subject) (all : Reasons) (given : Outcome) (any : Bool) (kind : LineKind) (said : Bool) (line : List ℕ)
     → JudgesAs judge answers → all ≡ judged_reasons judge subject → subject ≡ asked → given ≡ Key (found_as found asked)
     → any ≡ any_reason all → kind ≡ key_kind found.marker any → said ≡ says shown kind
-    → (said ≡ true → (answer : Answer) × (answer ≡ answers subject) × (line ≡ key_said shown.format name number (found_as found subject) answer))
-    → IsMade answers shown name number given kind said line
-key_made judge answers shown name number found asked subject all given any kind said line judges tested same given_is any_is kind_is said_is line_is =
+    → (said ≡ true → (answer : Answer) × (answer ≡ answers subject) × (line ≡ key_said shown.format place (found_as found subject) answer))
+    → IsMade answers shown place given kind said line
+key_made judge answers shown place found asked subject all given any kind said line judges tested same given_is any_is kind_is said_is line_is =
     let all_is : all ≡ (answers asked).reasons =
     tested ∙ ap (λ (a : Answer). a.reasons) (judges.answers_are subject) ∙ ap (λ (s : Subject). (answers s).reasons) same in
     record {
@@ -44,7 +45,7 @@ key_made judge answers shown name number found asked subject all given any kind 
       said_is = said_is;
       text_is = λ told.
           let made = line_is told in
-          made.2 ∙ ap (λ (s : Subject). key_said shown.format name number (found_as found s) made.0) same
-          ∙ ap (λ (a : Answer). key_said shown.format name number (found_as found asked) a) (made.1 ∙ ap answers same)
-          ∙ sym (ap (outcome_line shown.format answers name number) given_is);
+          made.2 ∙ ap (λ (s : Subject). key_said shown.format place (found_as found s) made.0) same
+          ∙ ap (λ (a : Answer). key_said shown.format place (found_as found asked) a) (made.1 ∙ ap answers same)
+          ∙ sym (ap (outcome_line shown.format answers place) given_is);
     }

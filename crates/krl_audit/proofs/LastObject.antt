@@ -1,5 +1,6 @@
 -- The last object is nested two deep, and its numbers are counts.
-use Rattle.std.proofs.Common.{[], ◌∷◌, ◌++◌, Option, None, Some, codes, arith}
+use Rattle.std.proofs.Common.{ℕ, List, [], ◌∷◌, ◌++◌, Option, None, Some, codes, arith}
+use Rattle.audit_text.specs.Objects.{label_fields}
 use Rattle.cert_listing.specs.Time.{instant_text}
 use Rattle.hex.specs.Hex.{encode_lower}
 use Rattle.json_lines.specs.Field.{word_field}
@@ -50,9 +51,15 @@ counts_fit files counts are = (
   ),
 )
 
-pub done_object_fits : (files : FileCounts) (counts : Counts) (list : ListFacts) → AreCounts files counts → Fits 3 (done_object files counts list)
-done_object_fits files counts list are =
-    object_fits 2 (word_field (codes "status") (codes "done") ∷ (count_fields files counts ++ list_field list ∷ [])) (
+label_fit : (label : Option (List ℕ)) → FieldsFit 2 (label_fields label)
+label_fit None = tt
+label_fit (Some label) = (word_fits 2 (codes "label") label, tt)
+
+pub done_object_fits : (label : Option (List ℕ)) (files : FileCounts) (counts : Counts) (list : ListFacts) → AreCounts files counts → Fits 3 (done_object label files counts list)
+done_object_fits label files counts list are =
+    object_fits 2 (label_fields label ++ (word_field (codes "status") (codes "done") ∷ (count_fields files counts ++ list_field list ∷ []))) (
+    fields_fit 2 (label_fields label) (word_field (codes "status") (codes "done") ∷ (count_fields files counts ++ list_field list ∷ [])) (label_fit label) (
       word_fits 2 (codes "status") (codes "done"),
       fields_fit 2 (count_fields files counts) (list_field list ∷ []) (counts_fit files counts are) (list_field_fits list),
+    )
     )

@@ -1,7 +1,9 @@
 pub mod Canaries
-pub mod Judging
-pub mod Telling
 pub mod Files
+pub mod Judging
+pub mod LastObject
 pub mod Private
 pub mod RevokedKeys
-pub mod LastObject
+pub mod ScannedKeys
+pub mod Scanning
+pub mod Telling

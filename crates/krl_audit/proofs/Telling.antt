@@ -9,9 +9,9 @@ use Rattle.run_output.specs.Carries.{Carries}
 use Rattle.run_output.specs.Printer.{Printer}
 use Rattle.run_output.specs.Run.{Item, name_of, said_of}
 use Rattle.run_output.proofs.RunParts.{carries_as, carries_more, carries_none, carries_then, carries_withheld}
-use Rattle.krl_audit.specs.Audit.{IsMade, SaysLine, Told, kind_of, kinds_of, line_item, lines_items, outcome_line, said_if, says}
+use Rattle.krl_audit.specs.Audit.{IsMade, SaysLine, Told, found_at, kind_of, kinds_of, line_item, lines_items, outcome_line, said_if, says}
 use Rattle.krl_audit.specs.Counts.{all_counted, counted}
-use Rattle.audit_lines.specs.Outcome.{Outcome, Placed, place}
+use Rattle.audit_lines.specs.Outcome.{Placed}
 use Rattle.krl_audit.specs.Tally.{all_tallied, tallied, within}
 use Rattle.krl_audit.specs.declared.counts.Counts.{Counts}
 use Rattle.audit_text.specs.declared.line_kind.LineKind.{LineKind}
@@ -20,32 +20,32 @@ use Rattle.krl_audit.specs.declared.tally.Tally.{Tally}
 
 -- ---- the item of a line
 
-item_by : (answers : Subject → Answer) (shown : Shown) (name : List ℕ) (number : ℕ) (outcome : Outcome) (kind : LineKind) (said : Bool) (text : List ℕ) → IsMade answers shown name number outcome kind said text
-    → line_item answers shown name number outcome ≡ said_if said name (outcome_line shown.format answers name number outcome)
-item_by answers shown name number outcome kind said text made =
-    ap (λ (k : LineKind). said_if (says shown k) name (outcome_line shown.format answers name number outcome)) (sym made.kind_is)
-    ∙ ap (λ (b : Bool). said_if b name (outcome_line shown.format answers name number outcome)) (sym made.said_is)
+item_by : (answers : Subject → Answer) (shown : Shown) (name : List ℕ) (line : Placed) (kind : LineKind) (said : Bool) (text : List ℕ) → IsMade answers shown (found_at shown name line) line.outcome kind said text
+    → line_item answers shown name line ≡ said_if said name (outcome_line shown.format answers (found_at shown name line) line.outcome)
+item_by answers shown name line kind said text made =
+    ap (λ (k : LineKind). said_if (says shown k) name (outcome_line shown.format answers (found_at shown name line) line.outcome)) (sym made.kind_is)
+    ∙ ap (λ (b : Bool). said_if b name (outcome_line shown.format answers (found_at shown name line) line.outcome)) (sym made.said_is)
 
 -- the item of a line that was made
-item_is : (answers : Subject → Answer) (shown : Shown) (name : List ℕ) (number : ℕ) (outcome : Outcome) (kind : LineKind) (said : Bool) (text : List ℕ) → IsMade answers shown name number outcome kind said text
-    → line_item answers shown name number outcome ≡ said_if said name text
-item_is answers shown name number outcome kind true text made = item_by answers shown name number outcome kind true text made ∙ ap (said_of name) (sym (made.text_is refl))
-item_is answers shown name number outcome kind false text made = item_by answers shown name number outcome kind false text made
+item_is : (answers : Subject → Answer) (shown : Shown) (name : List ℕ) (line : Placed) (kind : LineKind) (said : Bool) (text : List ℕ) → IsMade answers shown (found_at shown name line) line.outcome kind said text
+    → line_item answers shown name line ≡ said_if said name text
+item_is answers shown name line kind true text made = item_by answers shown name line kind true text made ∙ ap (said_of name) (sym (made.text_is refl))
+item_is answers shown name line kind false text made = item_by answers shown name line kind false text made
 
 named : (said : Bool) (name text : List ℕ) → name_of (said_if said name text) ≡ name
 named true name text = refl
 named false name text = refl
 
-line_named : (answers : Subject → Answer) (shown : Shown) (name : List ℕ) (number : ℕ) (outcome : Outcome) → name_of (line_item answers shown name number outcome) ≡ name
-line_named answers shown name number outcome = named (says shown (kind_of answers outcome)) name (outcome_line shown.format answers name number outcome)
+line_named : (answers : Subject → Answer) (shown : Shown) (name : List ℕ) (line : Placed) → name_of (line_item answers shown name line) ≡ name
+line_named answers shown name line = named (says shown (kind_of answers line.outcome)) name (outcome_line shown.format answers (found_at shown name line) line.outcome)
 
 -- ---- one line that was judged
 
-pub says_made : (answers : Subject → Answer) (shown : Shown) (name : List ℕ) (number : ℕ) (outcome : Outcome) (kind : LineKind) (said : Bool) (text : List ℕ) (value : Unit {0}) (old new : Printer)
-    → IsMade answers shown name number outcome kind said text → Carries (said_if said name text ∷ []) (Ok value) old new → SaysLine answers shown name (place number outcome) (Ok kind) old new
-says_made answers shown name number outcome kind said text value old new made carries = record {
-  carries = carries_as (line_item answers shown name number outcome ∷ []) (Ok value) (Ok kind) old new refl
-      (subst (λ (i : Item). Carries (i ∷ []) (Ok value) old new) (sym (item_is answers shown name number outcome kind said text made)) carries);
+pub says_made : (answers : Subject → Answer) (shown : Shown) (name : List ℕ) (line : Placed) (kind : LineKind) (said : Bool) (text : List ℕ) (value : Unit {0}) (old new : Printer)
+    → IsMade answers shown (found_at shown name line) line.outcome kind said text → Carries (said_if said name text ∷ []) (Ok value) old new → SaysLine answers shown name line (Ok kind) old new
+says_made answers shown name line kind said text value old new made carries = record {
+  carries = carries_as (line_item answers shown name line ∷ []) (Ok value) (Ok kind) old new refl
+      (subst (λ (i : Item). Carries (i ∷ []) (Ok value) old new) (sym (item_is answers shown name line kind said text made)) carries);
   kind_is = made.kind_is;
 }
 
@@ -60,7 +60,7 @@ pub told_said : (answers : Subject → Answer) (shown : Shown) (name : List ℕ)
     → SaysLine answers (within tally shown) name line (Ok kind) old new → after ≡ counted before kind → value ≡ tallied tally kind
     → Told answers shown name tally (line ∷ []) (Ok value) old new before after
 told_said answers shown name tally line kind value old new before after says counts more = record {
-  carries = carries_as (line_item answers (within tally shown) name line.number line.outcome ∷ []) (Ok kind) (Ok value) old new refl says.carries;
+  carries = carries_as (line_item answers (within tally shown) name line ∷ []) (Ok kind) (Ok value) old new refl says.carries;
   counts = counts ∙ ap (counted before) says.kind_is;
   tally_is = more ∙ ap (tallied tally) says.kind_is;
 }
@@ -68,7 +68,7 @@ told_said answers shown name tally line kind value old new before after says cou
 pub told_stopped : (answers : Subject → Answer) (shown : Shown) (name : List ℕ) (tally : Tally) (line : Placed) (stop : RunFault) (old new : Printer) (before after : Counts)
     → SaysLine answers (within tally shown) name line (Err stop) old new → Told answers shown name tally (line ∷ []) (Err stop) old new before after
 told_stopped answers shown name tally line stop old new before after says = record {
-  carries = carries_as {A = LineKind} {B = Tally} (line_item answers (within tally shown) name line.number line.outcome ∷ []) (Err stop) (Err stop) old new refl says.carries;
+  carries = carries_as {A = LineKind} {B = Tally} (line_item answers (within tally shown) name line ∷ []) (Err stop) (Err stop) old new refl says.carries;
   counts = tt;
   tally_is = tt;
 }
@@ -76,8 +76,8 @@ told_stopped answers shown name tally line stop old new before after says = reco
 pub told_memory : (answers : Subject → Answer) (shown : Shown) (name : List ℕ) (tally : Tally) (line : Placed) (lines : List Placed) (stop : RunFault) (now : Printer) (before after : Counts)
     → stop ≡ run_fault_of name causes.NoMemory → Told answers shown name tally (line ∷ lines) (Err stop) now now before after
 told_memory answers shown name tally line lines stop now before after is = record {
-  carries = carries_more {A = Tally} (line_item answers (within tally shown) name line.number line.outcome ∷ []) (lines_items answers shown name (tallied tally (kind_of answers line.outcome)) lines) stop now now
-      (withheld (line_item answers (within tally shown) name line.number line.outcome) name stop now (line_named answers (within tally shown) name line.number line.outcome) is);
+  carries = carries_more {A = Tally} (line_item answers (within tally shown) name line ∷ []) (lines_items answers shown name (tallied tally (kind_of answers line.outcome)) lines) stop now now
+      (withheld (line_item answers (within tally shown) name line) name stop now (line_named answers (within tally shown) name line) is);
   counts = tt;
   tally_is = tt;
 }
@@ -88,7 +88,7 @@ items_append : (answers : Subject → Answer) (shown : Shown) (name : List ℕ) 
     → lines_items answers shown name tally (xs ++ ys) ≡ lines_items answers shown name tally xs ++ lines_items answers shown name (all_tallied tally (kinds_of answers xs)) ys
 items_append answers shown name tally [] ys = refl
 items_append answers shown name tally (x ∷ xs) ys =
-    ap (λ (items : List Item). line_item answers (within tally shown) name x.number x.outcome ∷ items) (items_append answers shown name (tallied tally (kind_of answers x.outcome)) xs ys)
+    ap (λ (items : List Item). line_item answers (within tally shown) name x ∷ items) (items_append answers shown name (tallied tally (kind_of answers x.outcome)) xs ys)
 
 tally_append : (answers : Subject → Answer) (tally : Tally) (xs ys : List Placed) → all_tallied tally (kinds_of answers (xs ++ ys)) ≡ all_tallied (all_tallied tally (kinds_of answers xs)) (kinds_of answers ys)
 tally_append answers tally [] ys = refl

@@ -22,9 +22,11 @@ use Rattle.krl_audit.specs.Counts.{all_counted, audit_status}
 use Rattle.audit_lines.specs.Front.{fronts_of}
 use Rattle.audit_text.specs.More.{more_said}
 use Rattle.audit_lines.specs.Keyless.{keyless}
+use Rattle.audit_text.specs.Place.{Place, file_place, label_now}
 use Rattle.audit_text.specs.Said.{key_said, unread_said}
 use Rattle.audit_lines.specs.Outcome.{Empty, Key, Outcome, Outcomes, Placed}
 use Rattle.audit_lines.specs.Outcome.{Unread, place, placed_from, plain_lines, private_lines}
+use Rattle.krl_audit.specs.Scan.{scanned_lines}
 use Rattle.krl_audit.specs.Tally.{all_tallied, most, none_yet, tallied, within}
 use Rattle.text_index.specs.Explaining.{explained_by}
 use Rattle.text_index.specs.Indexing.{HasRegister}
@@ -70,35 +72,49 @@ says shown kinds.Revoked = shown.revoked
 says shown kinds.Unread = shown.unread
 
 -- the line that is printed for an outcome
-abbrev pub outcome_line : Format → (Subject → Answer) → List ℕ → ℕ → Outcome → List ℕ
-outcome_line form answers name number Empty = []
-outcome_line form answers name number (Key found) =
-    key_said form name number found (answers found.asked)
-outcome_line form answers name number (Unread why) = unread_said form name number why
+abbrev pub outcome_line : Format → (Subject → Answer) → Place → Outcome → List ℕ
+outcome_line form answers place Empty = []
+outcome_line form answers place (Key found) = key_said form place found (answers found.asked)
+outcome_line form answers place (Unread why) = unread_said form place why
 
 abbrev pub said_if : Bool → List ℕ → List ℕ → Item
 said_if true name text = said_of name text
 said_if false name text = Passed name
 
--- the item of a line
-abbrev pub line_item : (Subject → Answer) → Shown → List ℕ → ℕ → Outcome → Item
-line_item answers shown name number outcome =
-    said_if (says shown (kind_of answers outcome)) name
-    (outcome_line shown.format answers name number outcome)
+-- the place of an outcome in the file of this name, behind the label
+abbrev pub found_at : Shown → List ℕ → Placed → Place
+found_at shown name placed = record {
+  label = label_now shown.label;
+  name = name;
+  number = placed.number;
+  column = placed.column;
+}
+
+-- the item of an outcome
+abbrev pub line_item : (Subject → Answer) → Shown → List ℕ → Placed → Item
+line_item answers shown name placed =
+    said_if (says shown (kind_of answers placed.outcome)) name
+    (outcome_line shown.format answers (found_at shown name placed) placed.outcome)
 
 -- ---- files
 
--- The name of a file, and the name by which it is decided how its lines are read.
+-- The name of a file, and the name by which it is decided how its lines are read. If there is none,
+-- keys are found anywhere in them.
 pub record FileName : Type 0 where
   pub shown : List ℕ
-  pub read_as : List ℕ
+  pub read_as : Option (List ℕ)
 
 -- a file whose own name decides it
 abbrev pub own_name : List ℕ → FileName
-own_name name = record { shown = name; read_as = name }
+own_name name = record { shown = name; read_as = Some name }
+
+-- a file with keys anywhere in its lines
+abbrev pub scanned_name : List ℕ → FileName
+scanned_name name = record { shown = name; read_as = None }
 
 abbrev pub name_by : FileNameOf → FileName
-name_by name = record { shown = name.shown.now; read_as = name.read_as.now }
+name_by name =
+    record { shown = name.shown.now; read_as = option_map (λ path. path.now) name.read_as }
 
 -- the file as a whole, which has the number 0
 abbrev pub whole : Why → List Placed
@@ -114,10 +130,15 @@ text_lines true name text = private_lines name text
 text_lines false name text =
     let lines = plain_lines (fronts_of name) text in or_whole (keyless lines) lines
 
--- the outcomes of a file that is read as one of this name, by its bytes or why there are none
-unfoldable pub file_lines : List ℕ → Result (List ℕ) Refusal → List Placed
-file_lines name (Err refusal) = whole (whys.File refusal)
-file_lines name (Ok text) = text_lines (begins_container text) name text
+-- the outcomes of a text that is read as one of this name, or in which keys are found anywhere
+abbrev pub lines_by : Option (List ℕ) → List ℕ → List Placed
+lines_by None text = scanned_lines text
+lines_by (Some name) text = text_lines (begins_container text) name text
+
+-- the outcomes of a file, by its bytes or why there are none
+unfoldable pub file_lines : Option (List ℕ) → Result (List ℕ) Refusal → List Placed
+file_lines read_as (Err refusal) = whole (whys.File refusal)
+file_lines read_as (Ok text) = lines_by read_as text
 
 -- ---- the items of a file
 
@@ -125,14 +146,14 @@ file_lines name (Ok text) = text_lines (begins_container text) name text
 abbrev pub lines_items : (Subject → Answer) → Shown → List ℕ → Tally → List Placed → List Item
 lines_items answers shown name tally [] = []
 lines_items answers shown name tally (line ∷ lines) =
-    line_item answers (within tally shown) name line.number line.outcome
+    line_item answers (within tally shown) name line
     ∷ lines_items answers shown name (tallied tally (kind_of answers line.outcome)) lines
 
 -- how many lines of a kind there are, beyond those that are printed one by one
 abbrev pub more_item : Shown → List ℕ → LineKind → ℕ → Item
 more_item shown name kind lines =
     said_if (says shown kind && nat_lt most lines) name
-    (more_said shown.format name kind (lines - most))
+    (more_said shown.format (file_place (label_now shown.label) name) kind (lines - most))
 
 -- the last items of a file
 abbrev pub rest_items : Shown → List ℕ → Tally → List Item
@@ -152,17 +173,17 @@ file_items answers shown name content =
     lines_items answers shown name.shown none_yet lines
     ++ rest_items shown name.shown (all_tallied none_yet (kinds_of answers lines))
 
-unfoldable pub file_kinds : (Subject → Answer) → List ℕ → Result (List ℕ) Refusal
+unfoldable pub file_kinds : (Subject → Answer) → Option (List ℕ) → Result (List ℕ) Refusal
     → List LineKind
-file_kinds answers name content = kinds_of answers (file_lines name content)
+file_kinds answers read_as content = kinds_of answers (file_lines read_as content)
 
 -- ---- the line that was made for an outcome
 
-pub record IsMade (answers : Subject → Answer) (shown : Shown) (name : List ℕ) (number : ℕ)
+pub record IsMade (answers : Subject → Answer) (shown : Shown) (place : Place)
     (outcome : Outcome) (kind : LineKind) (said : Bool) (text : List ℕ) : Type 0 where
   pub kind_is : kind ≡ kind_of answers outcome
   pub said_is : said ≡ says shown kind
-  pub text_is : said ≡ true → text ≡ outcome_line shown.format answers name number outcome
+  pub text_is : said ≡ true → text ≡ outcome_line shown.format answers place outcome
 
 -- the bytes of a file, or why there are none
 abbrev pub content_of : Result (Bor (List ℕ)) Refusal → Result (List ℕ) Refusal
@@ -240,7 +261,7 @@ MeanCanaries (Some held) (Some entries) = Means held.now entries
 -- it.
 pub record SaysLine (answers : Subject → Answer) (shown : Shown) (name : List ℕ) (line : Placed)
     (result : Result LineKind RunFault) (old new : Printer) : Type 0 where
-  pub carries : Carries (line_item answers shown name line.number line.outcome ∷ []) result old new
+  pub carries : Carries (line_item answers shown name line ∷ []) result old new
   pub kind_is : IfOk result (λ kind. kind ≡ kind_of answers line.outcome)
 
 -- Exactly the items of these lines were printed after the earlier ones, and all lines were counted;

@@ -1,9 +1,10 @@
 -- The last object of an audit.
-use Rattle.std.specs.Prelude.{◌<◌, ◌^◌, List, [], ◌∷◌, ◌++◌, codes, Option, Some, None}
+use Rattle.std.specs.Prelude.{◌<◌, ◌^◌, ℕ, List, [], ◌∷◌, ◌++◌, codes, Option, Some, None}
 use Rattle.hex.specs.Hex.{encode_lower}
 use Rattle.json.specs.Json.{Json}
 use Rattle.json_lines.specs.Field.{Field, digits_field, field, number_field, object_of, text_field}
 use Rattle.json_lines.specs.Field.{word_field}
+use Rattle.audit_text.specs.Objects.{label_fields}
 use Rattle.cert_listing.specs.Time.{instant_text}
 use Rattle.krl_audit.specs.declared.counts.Counts.{Counts}
 use Rattle.krl_audit.specs.declared.done.FileCounts.{FileCounts}
@@ -60,7 +61,7 @@ pub record AreCounts (files : FileCounts) (counts : Counts) : Type 0 where
   pub unread : counts.unread < 2 ^ 64
 
 -- the last object of an audit that was not stopped
-abbrev pub done_object : FileCounts → Counts → ListFacts → Json
-done_object files counts list =
-    object_of (word_field (codes "status") (codes "done")
-    ∷ (count_fields files counts ++ list_field list ∷ []))
+abbrev pub done_object : Option (List ℕ) → FileCounts → Counts → ListFacts → Json
+done_object label files counts list =
+    object_of (label_fields label ++ (word_field (codes "status") (codes "done")
+    ∷ (count_fields files counts ++ list_field list ∷ [])))

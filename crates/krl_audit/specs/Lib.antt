@@ -1,4 +1,5 @@
-pub mod Counts
-pub mod Tally
-pub mod Done
 pub mod Audit
+pub mod Counts
+pub mod Done
+pub mod Scan
+pub mod Tally

@@ -30,6 +30,7 @@ is_few lines = nat_lt lines most
 -- the findings that are printed after these lines of their file
 abbrev pub within : Tally → Shown → Shown
 within tally shown = record {
+  label = shown.label;
   revoked = shown.revoked && is_few tally.revoked;
   unread = shown.unread && is_few tally.unread;
   fine = shown.fine && is_few tally.fine;

@@ -3,12 +3,14 @@
 ghost use Rattle.std.specs.Prelude.{◌≡◌, ◌∷◌, ◌+◌, ◌<◌, ◌^◌, [], ℕ, false, IfSome, List, Option};
 ghost use Rattle.std.specs.Prelude.{length};
 ghost use Rattle.std.specs.List.{slice_split};
+ghost use Rattle.key_text.specs.Armour.{begins_container};
 ghost use Rattle.key_text.specs.Lines.{is_newline, lines_left};
 ghost use Rattle.run_output.specs.Carries.{Carries, Reaches};
 ghost use Rattle.run_output.specs.Run.{Item, said_of};
 ghost use Rattle.json_lines.specs.Field.{json_line};
 ghost use Rattle.krl_types.specs.Subject.{Subject as SubjectOf};
 ghost use Rattle.audit_text.specs.Answer.{Answer as AnswerOf};
+ghost use Rattle.audit_text.specs.Place.{label_now};
 ghost use Rattle.krl_audit.specs.Audit.{EndsAudit, JudgesAs, Tells, ToldFile, SaysLine, content_of};
 ghost use Rattle.krl_audit.specs.Audit.{file_lines, more_item, name_by, text_lines};
 ghost use Rattle.krl_audit.specs.Audit.{rest_items, said_if, whole};
@@ -17,7 +19,8 @@ ghost use Rattle.audit_lines.specs.declared.front.Fronts.{Fronts as FrontsOf};
 ghost use Rattle.audit_lines.specs.Outcome.{GivesOutcome, GivesOutcomes, Outcome as OutcomeOf};
 ghost use Rattle.audit_lines.specs.Outcome.{Outcomes as OutcomesOf, LeadsBehind, opened_at};
 ghost use Rattle.audit_lines.specs.Outcome.{outcomes_of, private_lines};
-ghost use Rattle.audit_lines.specs.Outcome.{place, place_all, placed_behind, placed_from};
+ghost use Rattle.audit_lines.specs.Outcome.{in_column, place, place_all, placed_behind};
+ghost use Rattle.audit_lines.specs.Outcome.{placed_from};
 ghost use Rattle.audit_lines.specs.Outcome.{private_outcome, read_all};
 ghost use Rattle.krl_audit.specs.Tally.{none_yet, within};
 
@@ -46,8 +49,17 @@ const END_LINE: &[u8] = b"-----END OPENSSH PRIVATE KEY-----";
 pub struct FileName<'a> {
     /// The name that is printed.
     pub shown: &'a str,
-    /// The name that decides how the lines are read.
-    pub read_as: &'a str,
+    /// The name that decides how the lines are read. If there is none, keys are found anywhere in
+    /// them.
+    pub read_as: Option<&'a str>,
+}
+
+/// A line of a file: the name of the file, and the number of the line, from 1 on; 0 represents the
+/// whole file.
+#[derive(Clone, Copy)]
+pub(crate) struct FileLine<'a> {
+    pub(crate) name: &'a str,
+    pub(crate) number: u64,
 }
 
 /// Audits files: has the list for the queries, the printer and the counts.
@@ -107,23 +119,46 @@ impl<'q, 'w, W: Sink> Auditor<'q, 'w, W> {
         content: Result<&[u8], Refusal>,
     ) -> Result<Tally, RunFault<'a>>
         ensures told { Tells self.old name.entry.shown.now none_yet
-            (file_lines name.entry.read_as.now (content_of content.entry)) result self.new }
+            (file_lines (name_by name.entry).read_as (content_of content.entry)) result self.new }
         ensures judge { self.new.judge ≡ self.old.judge }
     {
-        match content {
-            Err(refusal) => self.say_whole(name.shown, Why::File(refusal)),
-            Ok(text) if is_container(text) => self.audit_private(name, text),
-            Ok(text) => self.audit_plain(name, text),
+        let FileName { shown, read_as } = name;
+        match (content, read_as) {
+            (Err(refusal), _) => self.say_whole(shown, Why::File(refusal)),
+            (Ok(text), None) => self.audit_scanned(shown, text),
+            (Ok(text), Some(read_as)) => self.audit_text(shown, read_as, text),
+        }
+    }
+
+    // Audits a file that is read as one of a name.
+    fn audit_text<'a>(
+        &mut self,
+        shown: &'a str,
+        read_as: &str,
+        text: &[u8],
+    ) -> Result<Tally, RunFault<'a>>
+        ensures told { Tells self.old shown.now none_yet
+            (text_lines (begins_container text.now) read_as.now text.now) result self.new }
+        ensures judge { self.new.judge ≡ self.old.judge }
+    {
+        if is_container(text) {
+            self.audit_private(shown, read_as, text)
+        } else {
+            self.audit_plain(shown, read_as, text)
         }
     }
 
     // Audits a file that begins with no private key.
-    fn audit_plain<'a>(&mut self, name: FileName<'a>, text: &[u8]) -> Result<Tally, RunFault<'a>>
-        ensures told { Tells self.old name.entry.shown.now none_yet
-            (text_lines false name.entry.read_as.now text.now) result self.new }
+    fn audit_plain<'a>(
+        &mut self,
+        shown: &'a str,
+        read_as: &str,
+        text: &[u8],
+    ) -> Result<Tally, RunFault<'a>>
+        ensures told { Tells self.old shown.now none_yet (text_lines false read_as.now text.now)
+            result self.new }
         ensures judge { self.new.judge ≡ self.old.judge }
     {
-        let FileName { shown, read_as } = name;
         let fronts = Fronts::of(read_as.as_bytes());
         let (line, after) = split_line(text);
         let Ok(first) = read_outcomes(self.run.alloc, fronts, line) else {
@@ -150,34 +185,34 @@ impl<'q, 'w, W: Sink> Auditor<'q, 'w, W> {
             (placed_from 1 (given ∷ read_all fronts (lines_left after.entry))) result self.new }
         ensures judge { self.new.judge ≡ self.old.judge }
     {
-        let tally = self.say_all(Location { name, number: 1 }, Tally::NONE, first)?;
+        let tally = self.say_all(FileLine { name, number: 1 }, Tally::NONE, first)?;
         match after {
             None => Ok(tally),
-            Some(rest) => self.audit_rest(Location { name, number: 1 }, fronts, tally, rest),
+            Some(rest) => self.audit_rest(FileLine { name, number: 1 }, fronts, tally, rest),
         }
     }
 
-    // Audits each line of a text. The location is that of the line before it.
+    // Audits each line of a text, by the line before it.
     fn audit_rest<'a>(
         &mut self,
-        location: Location<'a>,
+        before: FileLine<'a>,
         fronts: Fronts,
         tally: Tally,
         text: &[u8],
     ) -> Result<Tally, RunFault<'a>>
-        requires { location.number + length text.now + 1 < 2 ^ 64 }
-        ensures told { Tells self.old location.entry.name.now tally
-            (placed_from (location.entry.number + 1)
+        requires { before.number + length text.now + 1 < 2 ^ 64 }
+        ensures told { Tells self.old before.entry.name.now tally
+            (placed_from (before.entry.number + 1)
             (read_all fronts (slice_split is_newline text.now))) result self.new }
         ensures judge { self.new.judge ≡ self.old.judge }
     {
-        let Location { name, mut number } = location;
+        let FileLine { name, mut number } = before;
         let mut tally = tally;
         let mut rest = text;
         loop {
             let (line, after) = split_line(rest);
             number += 1;
-            tally = self.say_line(Location { name, number }, fronts, tally, line)?;
+            tally = self.say_line(FileLine { name, number }, fronts, tally, line)?;
             let Some(after) = after else {
                 return Ok(tally);
             };
@@ -188,55 +223,56 @@ impl<'q, 'w, W: Sink> Auditor<'q, 'w, W> {
     // Prints the findings of a line, if they are to be printed, and counts it.
     fn say_line<'a>(
         &mut self,
-        location: Location<'a>,
+        at: FileLine<'a>,
         fronts: Fronts,
         tally: Tally,
         line: &[u8],
     ) -> Result<Tally, RunFault<'a>>
-        ensures told { Tells self.old location.entry.name.now tally
-            (place_all location.entry.number (outcomes_of fronts line.now)) result self.new }
+        ensures told { Tells self.old at.entry.name.now tally
+            (place_all at.entry.number (outcomes_of fronts line.now)) result self.new }
         ensures judge { self.new.judge ≡ self.old.judge }
     {
         match read_outcomes(self.run.alloc, fronts, line) {
-            Ok(read) => self.say_all(location, tally, &read),
-            Err(_) => Err(RunFault::whole(location.name, Cause::NoMemory)),
+            Ok(read) => self.say_all(at, tally, &read),
+            Err(_) => Err(RunFault::whole(at.name, Cause::NoMemory)),
         }
     }
 
     // Prints the findings of the outcomes of a line, if they are to be printed, and counts it.
     fn say_all<'a>(
         &mut self,
-        location: Location<'a>,
+        at: FileLine<'a>,
         tally: Tally,
         read: &Outcomes<'_>,
     ) -> Result<Tally, RunFault<'a>>
         ensures told { (given : OutcomesOf) → GivesOutcomes read.now given
-            → Tells self.old location.entry.name.now tally
-            (place_all location.entry.number given) result self.new }
+            → Tells self.old at.entry.name.now tally (place_all at.entry.number given) result
+            self.new }
         ensures judge { self.new.judge ≡ self.old.judge }
     {
-        let tally = self.say(location, tally, &read.first)?;
+        let tally = self.say(at, 0, tally, &read.first)?;
         match &read.second {
             None => Ok(tally),
-            Some(second) => self.say(location, tally, second),
+            Some(second) => self.say(at, 0, tally, second),
         }
     }
 
-    // Prints the finding of an outcome, if it is to be printed, and counts it. Before it the file
-    // had lines of these numbers.
-    fn say<'a>(
+    /// Prints the finding of an outcome, if it is to be printed, and counts it. Its key begins in
+    /// this column; 0 represents the whole line. Before it the file had lines of these numbers.
+    pub(crate) fn say<'a>(
         &mut self,
-        location: Location<'a>,
+        at: FileLine<'a>,
+        column: u64,
         tally: Tally,
         outcome: &Outcome<'_>,
     ) -> Result<Tally, RunFault<'a>>
         ensures told { (given : OutcomeOf) → GivesOutcome outcome.now given
-            → Tells self.old location.entry.name.now tally
-            (place location.entry.number given ∷ []) result self.new }
+            → Tells self.old at.entry.name.now tally
+            (in_column at.entry.number column given ∷ []) result self.new }
         ensures judge { self.new.judge ≡ self.old.judge }
     {
         let shown = tally.within(self.judge.shown);
-        let kind = self.say_judged(location, shown, outcome)?;
+        let kind = self.say_judged(at, column, shown, outcome)?;
         self.counts = self.counts.with(kind);
         Ok(tally.with(kind))
     }
@@ -244,19 +280,26 @@ impl<'q, 'w, W: Sink> Auditor<'q, 'w, W> {
     // Prints the finding of an outcome, if it is to be printed, and returns its kind.
     fn say_judged<'a>(
         &mut self,
-        location: Location<'a>,
-        shown: Shown,
+        at: FileLine<'a>,
+        column: u64,
+        shown: Shown<'q>,
         outcome: &Outcome<'_>,
     ) -> Result<LineKind, RunFault<'a>>
         ensures said { (given : OutcomeOf) → GivesOutcome outcome.now given
             → (answers : SubjectOf → AnswerOf) → JudgesAs self.old.judge answers
-            → SaysLine answers shown location.entry.name.now
-            (place location.entry.number given) result self.old.run.printer
-            self.new.run.printer }
+            → SaysLine answers shown.entry at.entry.name.now (in_column at.entry.number column given)
+            result self.old.run.printer self.new.run.printer }
         ensures judge { self.new.judge ≡ self.old.judge }
         ensures counts { self.new.counts ≡ self.old.counts }
     {
         let alloc = self.run.alloc;
+        let FileLine { name, number } = at;
+        let location = Location {
+            label: shown.label,
+            name,
+            number,
+            column,
+        };
         let judge = Judge {
             list: self.judge.list,
             canaries: self.judge.canaries,
@@ -265,30 +308,31 @@ impl<'q, 'w, W: Sink> Auditor<'q, 'w, W> {
         };
         let made = match judge.judge(alloc, location, outcome, &mut self.run.line) {
             Ok(made) => made,
-            Err(_) => return Err(RunFault::whole(location.name, Cause::NoMemory)),
+            Err(_) => return Err(RunFault::whole(name, Cause::NoMemory)),
         };
-        say_made(&mut self.run, location.name, made.said)?;
+        say_made(&mut self.run, name, made.said)?;
         Ok(made.kind)
     }
 
     // Audits a private key file, and the lines that are read beside its key.
-    fn audit_private<'a>(&mut self, name: FileName<'a>, text: &[u8]) -> Result<Tally, RunFault<'a>>
-        ensures told { Tells self.old name.entry.shown.now none_yet
-            (private_lines name.entry.read_as.now text.now) result self.new }
+    fn audit_private<'a>(
+        &mut self,
+        name: &'a str,
+        read_as: &str,
+        text: &[u8],
+    ) -> Result<Tally, RunFault<'a>>
+        ensures told { Tells self.old name.now none_yet (private_lines read_as.now text.now) result
+            self.new }
         ensures judge { self.new.judge ≡ self.old.judge }
     {
-        let FileName {
-            shown: name,
-            read_as,
-        } = name;
         let tally = self.say_private(name, text)?;
         let fronts = Fronts::of(read_as.as_bytes());
         if is_read_by_lines(read_as.as_bytes()) {
-            return self.audit_rest(Location { name, number: 0 }, fronts, tally, text);
+            return self.audit_rest(FileLine { name, number: 0 }, fronts, tally, text);
         }
         match behind_private(text) {
             None => Ok(tally),
-            Some((number, rest)) => self.audit_rest(Location { name, number }, fronts, tally, rest),
+            Some((number, rest)) => self.audit_rest(FileLine { name, number }, fronts, tally, rest),
         }
     }
 
@@ -298,14 +342,14 @@ impl<'q, 'w, W: Sink> Auditor<'q, 'w, W> {
             (place 1 (private_outcome (opened_at text.now)) ∷ []) result self.new }
         ensures judge { self.new.judge ≡ self.old.judge }
     {
-        let location = Location { name, number: 1 };
+        let first = FileLine { name, number: 1 };
         match open_private(self.run.alloc, text) {
             Ok(Ok(Private { blob, comment })) => {
                 let outcome = checked(None, false, &[], blob, comment.as_slice());
-                self.say(location, Tally::NONE, &outcome)
+                self.say(first, 0, Tally::NONE, &outcome)
             }
             Ok(Err(fault)) => {
-                self.say(location, Tally::NONE, &Outcome::Unread(Why::Private(fault)))
+                self.say(first, 0, Tally::NONE, &Outcome::Unread(Why::Private(fault)))
             }
             Err(_) => Err(RunFault::whole(name, Cause::NoMemory)),
         }
@@ -316,11 +360,8 @@ impl<'q, 'w, W: Sink> Auditor<'q, 'w, W> {
         ensures told { Tells self.old name.now none_yet (whole why) result self.new }
         ensures judge { self.new.judge ≡ self.old.judge }
     {
-        self.say(
-            Location { name, number: 0 },
-            Tally::NONE,
-            &Outcome::Unread(why),
-        )
+        let file = FileLine { name, number: 0 };
+        self.say(file, 0, Tally::NONE, &Outcome::Unread(why))
     }
 
     // Prints of each kind how many lines a file has beyond those that were printed one by one, if
@@ -354,7 +395,8 @@ impl<'q, 'w, W: Sink> Auditor<'q, 'w, W> {
             kind,
             lines: lines.saturating_sub(MOST),
         };
-        if said && write_more(shown.format, name, more, &mut self.run.line).is_err() {
+        let location = Location::file(shown.label, name);
+        if said && write_more(shown.format, location, more, &mut self.run.line).is_err() {
             return Err(RunFault::whole(name, Cause::NoMemory));
         }
         say_made(&mut self.run, name, said)
@@ -368,12 +410,13 @@ impl<'q, 'w, W: Sink> Auditor<'q, 'w, W> {
         list: &ListFacts<'a>,
     ) -> Result<(), RunFault<'a>>
         ensures said { Carries (said_of list.now.name.now
-            (json_line (done_object files self.old.counts list.now)) ∷ []) result
-            self.old.run.printer self.new.run.printer }
+            (json_line (done_object (label_now self.old.judge.shown.label) files self.old.counts
+            list.now)) ∷ []) result self.old.run.printer self.new.run.printer }
         ensures judge { self.new.judge ≡ self.old.judge }
         ensures counts { self.new.counts ≡ self.old.counts }
     {
-        let made = write_done(files, self.counts, list, &mut self.run.line);
+        let label = self.judge.shown.label;
+        let made = write_done(label, files, self.counts, list, &mut self.run.line);
         self.run.say_line(list.name, made)
     }
 

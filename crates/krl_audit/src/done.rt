@@ -4,8 +4,10 @@ ghost use Rattle.std.specs.Prelude.{◌≡◌, OnOk};
 ghost use Rattle.json_lines.specs.Field.{json_line};
 ghost use Rattle.krl_audit.specs.Done.{done_object, line_count_fields, list_facts};
 ghost use Rattle.krl_audit.specs.Done.{stated_fields};
+ghost use Rattle.audit_text.specs.Place.{label_now};
 
 use crate::counts::Counts;
+use audit_text::LabelOf;
 use cert_listing::time_text;
 use json_lines::{Digits, Fields, LineWriter, Object, Text, object, put_fields};
 use krl_format::Stated;
@@ -50,14 +52,16 @@ pub struct ListFacts<'a> {
 
 /// Makes the line of the last object.
 pub(crate) fn write_done(
+    label: Option<&str>,
     files: FileCounts,
     counts: Counts,
     list: &ListFacts<'_>,
     line: &mut Vec<u8>,
 ) -> Result<(), AllocError>
-    ensures { OnOk result (line.new.items ≡ json_line (done_object files counts list.now)) }
+    ensures { OnOk result (line.new.items
+        ≡ json_line (done_object (label_now label.entry) files counts list.now)) }
 {
-    object!(line; "status": "done", "files": files.audited, counts, "skipped": files.skipped,
+    object!(line; LabelOf(label), "status": "done", "files": files.audited, counts, "skipped": files.skipped,
         "excluded": files.excluded, "elsewhere": files.elsewhere, "same": files.same,
         "list": Object(*list))
 }

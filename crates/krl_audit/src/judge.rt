@@ -5,6 +5,7 @@ ghost use Rattle.text_index.specs.Explaining.{explained_by, explained_of};
 ghost use Rattle.text_index.specs.NamingLines.{Register};
 ghost use Rattle.krl_types.specs.Subject.{Subject as SubjectOf};
 ghost use Rattle.audit_text.specs.Answer.{Answer as AnswerOf};
+ghost use Rattle.audit_text.specs.Place.{place_of};
 ghost use Rattle.krl_audit.specs.Audit.{AreIndexed, IsMade, JudgesAs, judged_reasons, key_kind};
 ghost use Rattle.krl_audit.specs.Audit.{says};
 ghost use Rattle.audit_lines.specs.Outcome.{GivesOutcome, Outcome as OutcomeOf, Unread};
@@ -23,7 +24,9 @@ use text_index::{Explanation, TextIndex};
 
 /// Which findings are printed, and how.
 #[derive(Clone, Copy)]
-pub struct Shown {
+pub struct Shown<'l> {
+    /// The text before the name of a file, if there is one.
+    pub label: Option<&'l str>,
     /// Print revoked keys.
     pub revoked: bool,
     /// Print lines and files that are not read.
@@ -44,7 +47,7 @@ pub struct Judge<'q> {
     /// The texts whose lines explain the findings, if any are given.
     pub texts: Option<&'q TextIndex<'q>>,
     /// Which findings are printed.
-    pub shown: Shown,
+    pub shown: Shown<'q>,
 }
 
 /// The kind of a line, and whether it is printed: then its text was made.
@@ -61,14 +64,14 @@ impl<'q> Judge<'q> {
     pub(crate) fn judge(
         &self,
         alloc: Global,
-        location: Location<'_>,
+        location: Location<'_, '_>,
         outcome: &Outcome<'_>,
         line: &mut Vec<u8>,
     ) -> Result<JudgedLine, AllocError>
         ensures { (answers : SubjectOf → AnswerOf) → JudgesAs self.now answers
             → (given : OutcomeOf) → GivesOutcome outcome.now given
-            → IfOk result (λ made. IsMade answers self.now.shown location.entry.name.now
-            location.entry.number given made.kind made.said line.new.items) }
+            → IfOk result (λ made. IsMade answers self.now.shown (place_of location.entry) given
+            made.kind made.said line.new.items) }
     {
         match outcome {
             Outcome::Empty => Ok(JudgedLine {
@@ -84,13 +87,13 @@ impl<'q> Judge<'q> {
     fn judge_unread(
         &self,
         alloc: Global,
-        location: Location<'_>,
+        location: Location<'_, '_>,
         why: Why,
         line: &mut Vec<u8>,
     ) -> Result<JudgedLine, AllocError>
         ensures { (answers : SubjectOf → AnswerOf) → IfOk result (λ made. IsMade answers
-            self.now.shown location.entry.name.now location.entry.number (Unread why) made.kind
-            made.said line.new.items) }
+            self.now.shown (place_of location.entry) (Unread why) made.kind made.said
+            line.new.items) }
     {
         let said = self.shown.unread;
         if said {
@@ -106,14 +109,14 @@ impl<'q> Judge<'q> {
     fn judge_key(
         &self,
         alloc: Global,
-        location: Location<'_>,
+        location: Location<'_, '_>,
         found: &Found<'_>,
         line: &mut Vec<u8>,
     ) -> Result<JudgedLine, AllocError>
         ensures { (answers : SubjectOf → AnswerOf) → JudgesAs self.now answers
             → (given : OutcomeOf) → GivesOutcome (Key found.now) given
-            → IfOk result (λ made. IsMade answers self.now.shown location.entry.name.now
-            location.entry.number given made.kind made.said line.new.items) }
+            → IfOk result (λ made. IsMade answers self.now.shown (place_of location.entry) given
+            made.kind made.said line.new.items) }
     {
         let any = match read_any(found.blob.as_slice()) {
             Ok(any) => any,
@@ -181,8 +184,8 @@ fn key_kind(marker: Option<Marker>, revoked: bool) -> LineKind
 }
 
 /// Returns true if a line of this kind is printed.
-pub fn says(shown: Shown, kind: LineKind) -> bool
-    ensures { result ≡ says shown kind }
+pub fn says(shown: Shown<'_>, kind: LineKind) -> bool
+    ensures { result ≡ says shown.entry kind }
 {
     match kind {
         LineKind::Empty | LineKind::Distrusted => false,

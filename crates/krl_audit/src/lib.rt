@@ -8,6 +8,7 @@ mod done;
 mod judge;
 pub mod laws;
 mod same;
+mod scan;
 mod tally;
 
 pub use auditor::{Auditor, FileName, say_made};

@@ -38,10 +38,11 @@ impl Tally {
     }
 
     /// The findings that are printed after these lines: at most 20 of each kind.
-    pub(crate) fn within(self, shown: Shown) -> Shown
-        ensures { result ≡ within self shown }
+    pub(crate) fn within(self, shown: Shown<'_>) -> Shown<'_>
+        ensures { result ≡ within self shown.entry }
     {
         Shown {
+            label: shown.label,
             revoked: shown.revoked && is_few(self.revoked),
             unread: shown.unread && is_few(self.unread),
             fine: shown.fine && is_few(self.fine),

@@ -7,3 +7,4 @@ mod made;
 mod objects;
 mod page;
 mod readings;
+mod scanned;

@@ -60,10 +60,10 @@ line_by_line : (container : Bool) (name text : List ℕ) → IsByLines (text_lin
 line_by_line true name text is = refl
 line_by_line false name text is = not_whole (keyless (plain_lines (fronts_of name) text)) (plain_lines (fronts_of name) text) is
 
-counts_are : (reasons : Subject → Reasons) (name text : List ℕ) → IsByLines (file_lines name (Ok text)) → counts_of reasons name (Ok text) ≡ all_counted none_counted (kinds_of (unexplained reasons) (file_lines name (Ok text)))
+counts_are : (reasons : Subject → Reasons) (name text : List ℕ) → IsByLines (file_lines (Some name) (Ok text)) → counts_of reasons name (Ok text) ≡ all_counted none_counted (kinds_of (unexplained reasons) (file_lines (Some name) (Ok text)))
 unfolding file_lines keyless_lines file_kinds
 counts_are reasons name text is =
-    ap (λ (count : Option ℕ). with_unread count (all_counted none_counted (file_kinds (unexplained reasons) name (Ok text)))) (line_by_line (begins_container text) name text is)
+    ap (λ (count : Option ℕ). with_unread count (all_counted none_counted (file_kinds (unexplained reasons) (Some name) (Ok text)))) (line_by_line (begins_container text) name text is)
 
 not_true : (b : Bool) → (b ≡ true → ⊥) → b ≡ false
 not_true true never = absurd (never refl)
@@ -76,17 +76,17 @@ as_many answers (line ∷ lines) = ap suc (as_many answers lines)
 fit : (answers : Subject → Answer) (lines : List Placed) → length lines + 1 < 2 ^ 64 → length (kinds_of answers lines) + 1 < 2 ^ 64
 fit answers lines room = omega (arith, room, as_many answers lines)
 
-pub keep : (reasons : Subject → Reasons) (name text : List ℕ) → length (file_lines name (Ok text)) + 1 < 2 ^ 64 → AreMarked (file_lines name (Ok text)) → HasKey (file_kinds (unexplained reasons) name (Ok text))
+pub keep : (reasons : Subject → Reasons) (name text : List ℕ) → length (file_lines (Some name) (Ok text)) + 1 < 2 ^ 64 → AreMarked (file_lines (Some name) (Ok text)) → HasKey (file_kinds (unexplained reasons) (Some name) (Ok text))
     → is_met roles.Keep (counts_of reasons name (Ok text)) ≡ true
 unfolding file_kinds
 keep reasons name text room marked some =
-    let lines : List Placed = file_lines name (Ok text) in
+    let lines : List Placed = file_lines (Some name) (Ok text) in
     let met : is_met roles.Keep (all_counted none_counted (kinds_of (unexplained reasons) lines)) ≡ true = (law roles.Keep (kinds_of (unexplained reasons) lines) (fit (unexplained reasons) lines room)).1 (all_may_be (unexplained reasons) lines marked, some) in
     ap (is_met roles.Keep) (counts_are reasons name text (inl marked)) ∙ met
 
-pub canary : (reasons : Subject → Reasons) (name text : List ℕ) → length (file_lines name (Ok text)) + 1 < 2 ^ 64 → SomeMarked (file_lines name (Ok text)) → is_met roles.Canary (counts_of reasons name (Ok text)) ≡ false
+pub canary : (reasons : Subject → Reasons) (name text : List ℕ) → length (file_lines (Some name) (Ok text)) + 1 < 2 ^ 64 → SomeMarked (file_lines (Some name) (Ok text)) → is_met roles.Canary (counts_of reasons name (Ok text)) ≡ false
 canary reasons name text room some =
-    let lines : List Placed = file_lines name (Ok text) in
+    let lines : List Placed = file_lines (Some name) (Ok text) in
     let counts = all_counted none_counted (kinds_of (unexplained reasons) lines) in
     let never : is_met roles.Canary counts ≡ true → ⊥ = λ met. no_canaries (unexplained reasons) lines some ((law roles.Canary (kinds_of (unexplained reasons) lines) (fit (unexplained reasons) lines room)).0 met).0 in
     ap (is_met roles.Canary) (counts_are reasons name text (inr some)) ∙ not_true (is_met roles.Canary counts) never

@@ -86,7 +86,7 @@ lines_counted name (Ok text) counts = with_unread (keyless_lines name text) coun
 -- the counts of a file
 abbrev pub counts_of : (Subject → Reasons) → List ℕ → Result (List ℕ) Refusal → Counts
 counts_of reasons name content =
-    let kinds = file_kinds (unexplained reasons) name content in
+    let kinds = file_kinds (unexplained reasons) (Some name) content in
     lines_counted name content (all_counted none_counted kinds)
 
 -- There may be no memory to count the lines of the file again.

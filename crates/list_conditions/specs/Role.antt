@@ -1,6 +1,6 @@
 -- The condition that a list must meet for the keys of a file.
 use Rattle.std.specs.Prelude.{◌≡◌, ℕ, ◌==◌, nat_lt, if◌then◌else◌, Bool, true, false, List, []}
-use Rattle.std.specs.Prelude.{◌∷◌, codes, ◌||◌, ◌⊎◌, IsTrue, Some}
+use Rattle.std.specs.Prelude.{◌∷◌, codes, ◌||◌, ◌⊎◌, IsTrue, Some, None}
 use Rattle.std.specs.List.{AllByRecursion}
 use Rattle.key_text.specs.declared.marker.Marker.TheVariants as markers
 use Rattle.krl_audit.specs.Counts.{is_key}
@@ -25,8 +25,10 @@ is_met role counts =
 
 -- the keys that do not meet the condition are printed, and the lines that are not read
 abbrev pub shown_for : Role → Format → Shown
-shown_for roles.Keep form = record { revoked = true; unread = true; fine = false; format = form }
-shown_for roles.Canary form = record { revoked = false; unread = true; fine = true; format = form }
+shown_for roles.Keep form =
+    record { label = None; revoked = true; unread = true; fine = false; format = form }
+shown_for roles.Canary form =
+    record { label = None; revoked = false; unread = true; fine = true; format = form }
 
 abbrev pub role_word : Role → List ℕ
 role_word roles.Keep = codes "keep"

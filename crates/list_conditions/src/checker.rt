@@ -136,7 +136,7 @@ impl<'q, 'w, W: Sink> Checker<'q, 'w, W> {
         self.auditor.counts = Counts::NONE;
         let file = FileName {
             shown: name,
-            read_as: name,
+            read_as: Some(name),
         };
         self.auditor.audit_file(file, content)?;
         self.check_counts(role, name, content)

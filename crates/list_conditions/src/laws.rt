@@ -46,12 +46,12 @@ pub fn marked_keys_count_as_keys()
         → found.marker ≡ Some markers.Revoked
         → kind_of answers (Key found) ≡ kinds.Distrusted }
     ensures keep { (reasons : Subject → Reasons) (name text : List ℕ)
-        → length (file_lines name (Ok text)) + 1 < 2 ^ 64
-        → AreMarked (file_lines name (Ok text))
-        → HasKey (file_kinds (unexplained reasons) name (Ok text))
+        → length (file_lines (Some name) (Ok text)) + 1 < 2 ^ 64
+        → AreMarked (file_lines (Some name) (Ok text))
+        → HasKey (file_kinds (unexplained reasons) (Some name) (Ok text))
         → is_met roles.Keep (counts_of reasons name (Ok text)) ≡ true }
     ensures canary { (reasons : Subject → Reasons) (name text : List ℕ)
-        → length (file_lines name (Ok text)) + 1 < 2 ^ 64
-        → SomeMarked (file_lines name (Ok text))
+        → length (file_lines (Some name) (Ok text)) + 1 < 2 ^ 64
+        → SomeMarked (file_lines (Some name) (Ok text))
         → is_met roles.Canary (counts_of reasons name (Ok text)) ≡ false }
 {}

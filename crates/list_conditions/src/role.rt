@@ -32,18 +32,20 @@ impl Role {
 
     /// The lines that are printed: keys that do not meet the condition, and lines that are not
     /// read.
-    pub(crate) fn shown(self, form: Format) -> Shown
+    pub(crate) fn shown(self, form: Format) -> Shown<'static>
         ensures shown { result ≡ shown_for self form }
         ensures form { result.format ≡ form }
     {
         match self {
             Role::Keep => Shown {
+                label: None,
                 revoked: true,
                 unread: true,
                 fine: false,
                 format: form,
             },
             Role::Canary => Shown {
+                label: None,
                 revoked: false,
                 unread: true,
                 fine: true,

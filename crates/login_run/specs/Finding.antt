@@ -8,6 +8,7 @@ use Rattle.krl_types.specs.Subject.{Subject}
 use Rattle.krl_entries.specs.Reasons.{any_reason}
 use Rattle.audit_lines.specs.declared.why.Why.TheVariants as whys
 use Rattle.audit_text.specs.Answer.{Answer}
+use Rattle.audit_text.specs.Place.{line_place}
 use Rattle.audit_text.specs.Said.{unread_said}
 use Rattle.audit_text.specs.declared.format.Format.{Format}
 use Rattle.audit_text.specs.declared.line_kind.LineKind.{LineKind}
@@ -54,14 +55,16 @@ kind_of answers (Reports login id) =
 kind_of answers (Lacks why) = kinds.Unread
 
 abbrev pub not_read_text : Format → (name : List ℕ) → ℕ → NotRead → List ℕ
-not_read_text form name number (reasons.Log why) = unread_login_said form name number why
+not_read_text form name number (reasons.Log why) =
+    unread_login_said form (line_place name number) why
 not_read_text form name number (reasons.File refusal) =
-    unread_said form name number (whys.File refusal)
+    unread_said form (line_place name number) (whys.File refusal)
 
 abbrev pub finding_text : Format → (Subject → Answer) → (name : List ℕ) → ℕ → Finding → List ℕ
 finding_text form answers name number Nothing = []
 finding_text form answers name number (Reports login id) =
-    login_said form name number login id (asked_by login id) (answers (asked_by login id))
+    login_said form (line_place name number) login id (asked_by login id)
+    (answers (asked_by login id))
 finding_text form answers name number (Lacks why) = not_read_text form name number why
 
 abbrev pub finding_item : (Subject → Answer) → Shown → Placed → Item

@@ -1,5 +1,5 @@
 -- The search for logins that the command asks for.
-use Rattle.std.specs.Prelude.{◌≡◌, Option}
+use Rattle.std.specs.Prelude.{◌≡◌, Option, None}
 use Rattle.std.specs.Borrow.{Bor}
 use Rattle.krl_arguments.specs.Task.{logins_by, name_or_first}
 use Rattle.krl_arguments.specs.declared.task.Logins.{Logins}
@@ -15,6 +15,7 @@ pub record IsLoginOrder (task : Logins) (texts : Option (Bor TextIndex)) (termin
   pub list : order.list.now ≡ name_or_first (logins_by task).list (logins_by task).texts
   pub texts_are : order.texts ≡ texts
   pub shown : order.shown ≡ shown_by (record {
+    label = None;
     quiet = task.quiet;
     all = task.all;
     json = task.json;

@@ -5,8 +5,8 @@ ghost use Rattle.login_run.specs.Log.{BeginsLine, EndsLine, Takes, parts_of};
 
 use crate::feed::split_at_feed;
 use crate::finding::say_line;
+use crate::judging::LogLine;
 use crate::packed::packed_at;
-use audit_text::Location;
 use byte_streams::Sink;
 use krl_audit::Auditor;
 use login_text::Packed;
@@ -86,7 +86,7 @@ pub(crate) fn end_line<'a, W: Sink>(
         return Ok(Some(Stop::Packed(packed)));
     }
     let number = start.number.saturating_add(1);
-    say_line(auditor, Location { name, number }, start.front.as_slice())?;
+    say_line(auditor, LogLine { name, number }, start.front.as_slice())?;
     start.front.clear();
     start.number = number;
     Ok(None)

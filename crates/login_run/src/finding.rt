@@ -7,8 +7,7 @@ ghost use Rattle.audit_text.specs.Answer.{Answer as AnswerOf};
 ghost use Rattle.login_run.specs.Finding.{IsMade, Lacks, Placed, Tells, finding_of, place};
 ghost use Rattle.login_text.specs.Outcome.{IsOutcome, Outcome as OutcomeOf};
 
-use crate::judging::{NotRead, judge_line, judge_unread};
-use audit_text::Location;
+use crate::judging::{LogLine, NotRead, judge_line, judge_unread};
 use byte_streams::Sink;
 use krl_audit::{Auditor, JudgedLine, say_made};
 use run_faults::{Cause, RunFault};
@@ -17,30 +16,30 @@ use std::alloc::AllocError;
 /// Prints the finding of a line, if it is to be printed, and counts it.
 pub(crate) fn say_line<'a, W: Sink>(
     auditor: &mut Auditor<'_, '_, W>,
-    location: Location<'a>,
+    at: LogLine<'a>,
     line: &[u8],
 ) -> Result<(), RunFault<'a>>
     ensures { (outcome : OutcomeOf) → IsOutcome line.now outcome → Tells auditor.old
-        (place location.entry.name.now location.entry.number (finding_of outcome) ∷ []) result
+        (place at.entry.name.now at.entry.number (finding_of outcome) ∷ []) result
         auditor.new }
 {
     let run = &mut auditor.run;
-    let made = judge_line(run.alloc, &auditor.judge, location, line, &mut run.line);
-    say(auditor, location.name, made)
+    let made = judge_line(run.alloc, &auditor.judge, at, line, &mut run.line);
+    say(auditor, at.name, made)
 }
 
 /// Prints why a line or a log is not read, if that is to be printed, and counts it.
 pub(crate) fn say_not_read<'a, W: Sink>(
     auditor: &mut Auditor<'_, '_, W>,
-    location: Location<'a>,
+    at: LogLine<'a>,
     why: NotRead,
 ) -> Result<(), RunFault<'a>>
     ensures { Tells auditor.old
-        (place location.entry.name.now location.entry.number (Lacks why) ∷ []) result auditor.new }
+        (place at.entry.name.now at.entry.number (Lacks why) ∷ []) result auditor.new }
 {
     let run = &mut auditor.run;
-    let made = judge_unread(run.alloc, &auditor.judge, location, why, &mut run.line);
-    say(auditor, location.name, made)
+    let made = judge_unread(run.alloc, &auditor.judge, at, why, &mut run.line);
+    say(auditor, at.name, made)
 }
 
 // Prints a finding that was made, if it is to be printed, and counts it.

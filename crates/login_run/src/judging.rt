@@ -26,17 +26,25 @@ pub enum NotRead {
     File(Refusal),
 }
 
+/// A line of a log: the name of the log, and the number of the line, from 1 on; 0 represents the
+/// whole log.
+#[derive(Clone, Copy)]
+pub(crate) struct LogLine<'a> {
+    pub(crate) name: &'a str,
+    pub(crate) number: u64,
+}
+
 /// Judges a line, and makes its text if it is printed.
 pub(crate) fn judge_line(
     alloc: Global,
     judge: &Judge<'_>,
-    location: Location<'_>,
+    at: LogLine<'_>,
     line: &[u8],
     text: &mut Vec<u8>,
 ) -> Result<JudgedLine, AllocError>
     ensures { (outcome : OutcomeOf) → IsOutcome line.now outcome → (answers : SubjectOf → AnswerOf)
         → JudgesAs judge.now answers → IfOk result (λ made. IsMade answers judge.now.shown
-        (place location.entry.name.now location.entry.number (finding_of outcome)) made.kind
+        (place at.entry.name.now at.entry.number (finding_of outcome)) made.kind
         made.said text.new.items) }
 {
     match &read_outcome(alloc, line)? {
@@ -46,16 +54,10 @@ pub(crate) fn judge_line(
         }),
         Outcome::Login { login, id } => {
             let verdict = (login, id.as_slice());
-            judge_login(alloc, judge, location, verdict, text)
+            judge_login(alloc, judge, at, verdict, text)
         }
         Outcome::Unread(fault) => {
-            judge_unread(
-                alloc,
-                judge,
-                location,
-                NotRead::Log(LoginWhy::Line(*fault)),
-                text,
-            )
+            judge_unread(alloc, judge, at, NotRead::Log(LoginWhy::Line(*fault)), text)
         }
     }
 }
@@ -64,17 +66,18 @@ pub(crate) fn judge_line(
 fn judge_login(
     alloc: Global,
     judge: &Judge<'_>,
-    location: Location<'_>,
+    at: LogLine<'_>,
     found: (&Login<'_>, &[u8]),
     text: &mut Vec<u8>,
 ) -> Result<JudgedLine, AllocError>
     ensures { (answers : SubjectOf → AnswerOf) → JudgesAs judge.now answers
         → IfOk result (λ made. IsMade answers judge.now.shown
-        (place location.entry.name.now location.entry.number
+        (place at.entry.name.now at.entry.number
         (Reports (reported_of found.entry.0.now) found.entry.1.now)) made.kind made.said
         text.new.items) }
 {
     let (login, id) = found;
+    let location = Location::line(at.name, at.number);
     let subject = subject_of(alloc, login, id)?;
     let reasons = judge.reasons(&subject);
     let kind = revoked_or_fine(reasons.any());
@@ -108,17 +111,18 @@ fn revoked_or_fine(revoked: bool) -> LineKind
 pub(crate) fn judge_unread(
     alloc: Global,
     judge: &Judge<'_>,
-    location: Location<'_>,
+    at: LogLine<'_>,
     why: NotRead,
     text: &mut Vec<u8>,
 ) -> Result<JudgedLine, AllocError>
     ensures { (answers : SubjectOf → AnswerOf) → IfOk result (λ made. IsMade answers
-        judge.now.shown (place location.entry.name.now location.entry.number (Lacks why))
+        judge.now.shown (place at.entry.name.now at.entry.number (Lacks why))
         made.kind made.said text.new.items) }
 {
     let said = judge.shown.unread;
     if said {
         let form = judge.shown.format;
+        let location = Location::line(at.name, at.number);
         match why {
             NotRead::Log(why) => say_unread_login(form, location, why, text)?,
             NotRead::File(refusal) => say_unread(alloc, form, location, Why::File(refusal), text)?,

@@ -6,9 +6,8 @@ ghost use Rattle.login_run.specs.Log.{AuditsLog, EndsLog, IsRead, stop_findings}
 
 use crate::batch::{LineStart, Stop, audit_batch, end_line};
 use crate::finding::say_not_read;
-use crate::judging::NotRead;
+use crate::judging::{LogLine, NotRead};
 use audit_lines::Refusal;
-use audit_text::Location;
 use byte_streams::{Sink, Source};
 use krl_audit::Auditor;
 use login_text::LoginWhy;
@@ -45,7 +44,7 @@ pub(crate) fn audit_log<'a, W: Sink, R: Source>(
     }
     say_rest(
         auditor,
-        Location { name, number: 0 },
+        LogLine { name, number: 0 },
         NotRead::File(Refusal::TooLong),
     )
 }
@@ -78,19 +77,19 @@ fn say_stop<'a, W: Sink>(
         Stop::LongLine => (lines.saturating_add(1), LoginWhy::LongLine),
         Stop::Packed(packed) => (0, LoginWhy::Packed(packed)),
     };
-    say_rest(auditor, Location { name, number }, NotRead::Log(why))
+    say_rest(auditor, LogLine { name, number }, NotRead::Log(why))
 }
 
 // Prints why the rest of a log is not read, and counts it.
 fn say_rest<'a, W: Sink>(
     auditor: &mut Auditor<'_, '_, W>,
-    location: Location<'a>,
+    at: LogLine<'a>,
     why: NotRead,
 ) -> Result<bool, RunFault<'a>>
-    ensures tells { Tells auditor.old (place location.entry.name.now location.entry.number
+    ensures tells { Tells auditor.old (place at.entry.name.now at.entry.number
         (Lacks why) ∷ []) result auditor.new }
     ensures read { IsRead result }
 {
-    say_not_read(auditor, location, why)?;
+    say_not_read(auditor, at, why)?;
     Ok(true)
 }

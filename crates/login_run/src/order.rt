@@ -17,7 +17,7 @@ pub struct LoginOrder<'a> {
     /// fingerprints.
     pub texts: Option<&'a TextIndex<'a>>,
     /// Which findings are printed, and how.
-    pub shown: Shown,
+    pub shown: Shown<'a>,
     /// The logs.
     pub files: &'a [&'a str],
 }
@@ -33,6 +33,7 @@ impl<'a> LoginOrder<'a> {
         ensures { IsLoginOrder task.now texts.entry terminal result }
     {
         let options = Options {
+            label: None,
             quiet: task.quiet,
             all: task.all,
             json: task.json,

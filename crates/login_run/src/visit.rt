@@ -6,11 +6,10 @@ ghost use Rattle.login_run.specs.Finding.{Tells};
 ghost use Rattle.login_run.specs.Visits.{TellsLog, Visits, VisitsAll, VisitsFile, refused};
 
 use crate::finding::say_not_read;
-use crate::judging::NotRead;
+use crate::judging::{LogLine, NotRead};
 use crate::log::audit_log;
 use audit_lines::Refusal;
 use audit_run::Tree;
-use audit_text::Location;
 use byte_streams::{Sink, Source};
 use krl_audit::Auditor;
 use run_faults::{Cause, RunFault};
@@ -106,6 +105,6 @@ fn refuse<'a, W: Sink>(
 ) -> Result<(), RunFault<'a>>
     ensures { Tells auditor.old (refused name.now refusal) result auditor.new }
 {
-    let location = Location { name, number: 0 };
-    say_not_read(auditor, location, NotRead::File(refusal))
+    let log = LogLine { name, number: 0 };
+    say_not_read(auditor, log, NotRead::File(refusal))
 }

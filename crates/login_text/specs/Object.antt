@@ -11,6 +11,7 @@ use Rattle.login_lines.specs.declared.opening.Step.{Step}
 use Rattle.login_lines.specs.declared.opening.Step.TheVariants.{Accepted, Partial}
 use Rattle.audit_text.specs.Answer.{Answer}
 use Rattle.audit_text.specs.Objects.{list_fields, location_fields, status_word}
+use Rattle.audit_text.specs.Place.{Place}
 use Rattle.audit_text.specs.Print.{print_by}
 use Rattle.audit_text.specs.declared.format.Format.{Format}
 use Rattle.audit_text.specs.declared.format.Format.TheVariants as formats
@@ -36,9 +37,9 @@ login_fields login asked all =
     ∷ text_field (codes "from") login.address ∷ []
 
 -- the object of a login
-abbrev pub login_object : List ℕ → ℕ → Reported → Subject → Answer → Json
-login_object name number login asked answer =
-    object_of (location_fields name number
+abbrev pub login_object : Place → Reported → Subject → Answer → Json
+login_object place login asked answer =
+    object_of (location_fields place
     ++ (login_fields login asked answer.reasons
     ++ (prefix_fields login.prefix
     ++ word_field (codes "step") (step_word login.step) ∷ list_fields Fingerprint asked answer)))
@@ -50,23 +51,23 @@ unread_login_fields why =
     ∷ text_field (codes "why") (login_why_text why) ∷ []
 
 -- the object of a line or a log that is not read
-abbrev pub unread_login_object : List ℕ → ℕ → LoginWhy → Json
-unread_login_object name number why =
-    object_of (location_fields name number ++ unread_login_fields why)
+abbrev pub unread_login_object : Place → LoginWhy → Json
+unread_login_object place why =
+    object_of (location_fields place ++ unread_login_fields why)
 
 -- ---- in each format
 
 -- the line of a login
-abbrev pub login_said : Format → List ℕ → ℕ → Reported → (id : List ℕ) → Subject → Answer → List ℕ
-login_said formats.Text name number login id asked answer =
-    login_text false name number login id asked answer
-login_said formats.Colour name number login id asked answer =
-    login_text true name number login id asked answer
-login_said formats.Json name number login id asked answer =
-    json_line (login_object name number login asked answer)
+abbrev pub login_said : Format → Place → Reported → (id : List ℕ) → Subject → Answer → List ℕ
+login_said formats.Text place login id asked answer =
+    login_text false place login id asked answer
+login_said formats.Colour place login id asked answer =
+    login_text true place login id asked answer
+login_said formats.Json place login id asked answer =
+    json_line (login_object place login asked answer)
 
 -- the line for a line or a log that is not read
-abbrev pub unread_login_said : Format → List ℕ → ℕ → LoginWhy → List ℕ
-unread_login_said formats.Text name number why = unread_login_line false name number why
-unread_login_said formats.Colour name number why = unread_login_line true name number why
-unread_login_said formats.Json name number why = json_line (unread_login_object name number why)
+abbrev pub unread_login_said : Format → Place → LoginWhy → List ℕ
+unread_login_said formats.Text place why = unread_login_line false place why
+unread_login_said formats.Colour place why = unread_login_line true place why
+unread_login_said formats.Json place why = json_line (unread_login_object place why)

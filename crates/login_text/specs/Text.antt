@@ -8,6 +8,7 @@ use Rattle.login_lines.specs.Logins.{Reported}
 use Rattle.text_index.specs.Explaining.{explained_of}
 use Rattle.audit_text.specs.Answer.{Answer}
 use Rattle.audit_text.specs.Colour.{unread_word, verdict_word}
+use Rattle.audit_text.specs.Place.{Place}
 use Rattle.audit_text.specs.Print.{print_by, spelled_by}
 use Rattle.audit_text.specs.Text.{explained_if, location_text, reasons_text}
 use Rattle.login_text.specs.Why.{login_why_text}
@@ -30,24 +31,24 @@ abbrev pub key_words : Reported → Subject → List ℕ
 key_words login asked = login.key.kind ++ (codes " " ++ print_by Fingerprint asked.plain)
 
 -- the line of a login by a key or certificate that is revoked or not, in colour or not
-abbrev pub login_line : Bool → List ℕ → ℕ → Reported → (id : List ℕ) → Subject → Answer → List ℕ
-login_line coloured name number login id asked answer =
-    location_text name number
+abbrev pub login_line : Bool → Place → Reported → (id : List ℕ) → Subject → Answer → List ℕ
+login_line coloured place login id asked answer =
+    location_text place
     ++ (verdict_word coloured (any_reason answer.reasons)
     ++ (key_words login asked
     ++ (reasons_text (spelled_by Fingerprint answer.explained) asked answer.reasons
     ++ (login_words login id ++ 10 ∷ []))))
 
 -- the line of a login, and the lines of texts that explain it
-abbrev pub login_text : Bool → List ℕ → ℕ → Reported → (id : List ℕ) → Subject → Answer → List ℕ
-login_text coloured name number login id asked answer =
-    login_line coloured name number login id asked answer
+abbrev pub login_text : Bool → Place → Reported → (id : List ℕ) → Subject → Answer → List ℕ
+login_text coloured place login id asked answer =
+    login_line coloured place login id asked answer
     ++ explained_if Fingerprint asked answer.explained
 
 -- the line for a line or a log that is not read, in colour or not
-abbrev pub unread_login_line : Bool → List ℕ → ℕ → LoginWhy → List ℕ
-unread_login_line coloured name number why =
-    location_text name number ++ (unread_word coloured ++ (login_why_text why ++ 10 ∷ []))
+abbrev pub unread_login_line : Bool → Place → LoginWhy → List ℕ
+unread_login_line coloured place why =
+    location_text place ++ (unread_word coloured ++ (login_why_text why ++ 10 ∷ []))
 
 -- the answer about a login
 abbrev pub answer_of : LoginVerdict → Answer

@@ -3,6 +3,7 @@
 ghost use Rattle.std.specs.Prelude.{◌≡◌, OnOk, option_map};
 ghost use Rattle.json_lines.specs.Field.{json_line};
 ghost use Rattle.login_lines.specs.Logins.{reported_of};
+ghost use Rattle.audit_text.specs.Place.{place_of};
 ghost use Rattle.login_text.specs.Object.{login_object, login_said, prefix_fields, step_word};
 ghost use Rattle.login_text.specs.Object.{unread_login_fields, unread_login_object};
 ghost use Rattle.login_text.specs.Object.{unread_login_said};
@@ -23,12 +24,12 @@ use std::alloc::{AllocError, Global};
 pub fn say_login(
     alloc: Global,
     form: Format,
-    location: Location<'_>,
+    location: Location<'_, '_>,
     verdict: &LoginVerdict<'_>,
     line: &mut Vec<u8>,
 ) -> Result<(), AllocError>
-    ensures { OnOk result (line.new.items ≡ login_said form location.entry.name.now
-        location.entry.number (reported_of verdict.now.login.now) verdict.now.id.now
+    ensures { OnOk result (line.new.items ≡ login_said form (place_of location.entry)
+        (reported_of verdict.now.login.now) verdict.now.id.now
         verdict.now.subject.now (answer_of verdict.now)) }
 {
     match form {
@@ -41,12 +42,12 @@ pub fn say_login(
 /// Makes the line for a line or a log that is not read.
 pub fn say_unread_login(
     form: Format,
-    location: Location<'_>,
+    location: Location<'_, '_>,
     why: LoginWhy,
     line: &mut Vec<u8>,
 ) -> Result<(), AllocError>
     ensures { OnOk result (line.new.items
-        ≡ unread_login_said form location.entry.name.now location.entry.number why) }
+        ≡ unread_login_said form (place_of location.entry) why) }
 {
     match form {
         Format::Text => write_unread(false, location, why, line),
@@ -57,12 +58,12 @@ pub fn say_unread_login(
 
 // Makes the object of a login.
 fn write_login_object(
-    location: Location<'_>,
+    location: Location<'_, '_>,
     verdict: &LoginVerdict<'_>,
     line: &mut Vec<u8>,
 ) -> Result<(), AllocError>
-    ensures { OnOk result (line.new.items ≡ json_line (login_object location.entry.name.now
-        location.entry.number (reported_of verdict.now.login.now) verdict.now.subject.now
+    ensures { OnOk result (line.new.items ≡ json_line (login_object (place_of location.entry)
+        (reported_of verdict.now.login.now) verdict.now.subject.now
         (answer_of verdict.now))) }
 {
     let by = KeysBy::Fingerprint;

@@ -3,6 +3,7 @@
 ghost use Rattle.std.specs.Prelude.{◌≡◌, ◌++◌, OnOk, codes, option_map};
 ghost use Rattle.login_lines.specs.Logins.{known, reported_of};
 ghost use Rattle.text_index.specs.Explaining.{explained_of};
+ghost use Rattle.audit_text.specs.Place.{place_of};
 ghost use Rattle.line_pieces.specs.Visible.{visible};
 ghost use Rattle.login_text.specs.Text.{answer_of, login_line, login_text, unread_login_line};
 ghost use Rattle.login_text.specs.Text.{id_words};
@@ -54,12 +55,12 @@ impl<'a> Printed for IdOf<'a> {
 pub(crate) fn write_login(
     alloc: Global,
     coloured: bool,
-    location: Location<'_>,
+    location: Location<'_, '_>,
     verdict: &LoginVerdict<'_>,
     line: &mut Vec<u8>,
 ) -> Result<(), AllocError>
-    ensures { OnOk result (line.new.items ≡ login_text coloured location.entry.name.now
-        location.entry.number (reported_of verdict.now.login.now) verdict.now.id.now
+    ensures { OnOk result (line.new.items ≡ login_text coloured (place_of location.entry)
+        (reported_of verdict.now.login.now) verdict.now.id.now
         verdict.now.subject.now (answer_of verdict.now)) }
 {
     write_login_line(alloc, coloured, location, verdict, line)?;
@@ -81,12 +82,12 @@ pub(crate) fn write_login(
 fn write_login_line(
     alloc: Global,
     coloured: bool,
-    location: Location<'_>,
+    location: Location<'_, '_>,
     verdict: &LoginVerdict<'_>,
     line: &mut Vec<u8>,
 ) -> Result<(), AllocError>
-    ensures { OnOk result (line.new.items ≡ login_line coloured location.entry.name.now
-        location.entry.number (reported_of verdict.now.login.now) verdict.now.id.now
+    ensures { OnOk result (line.new.items ≡ login_line coloured (place_of location.entry)
+        (reported_of verdict.now.login.now) verdict.now.id.now
         verdict.now.subject.now (answer_of verdict.now)) }
 {
     let by = KeysBy::Fingerprint;
@@ -110,12 +111,12 @@ fn write_login_line(
 /// Makes the line for a line or a log that is not read, with its line feed, in colour or not.
 pub(crate) fn write_unread(
     coloured: bool,
-    location: Location<'_>,
+    location: Location<'_, '_>,
     why: LoginWhy,
     line: &mut Vec<u8>,
 ) -> Result<(), AllocError>
     ensures { OnOk result (line.new.items
-        ≡ unread_login_line coloured location.entry.name.now location.entry.number why) }
+        ≡ unread_login_line coloured (place_of location.entry) why) }
 {
     line.clear();
     put!(line; location, unread_mark(coloured), why, b"\n")

@@ -1,7 +1,7 @@
 //! Audits of a tree in memory by a plain list of one key.
 
 use crate::tests::shelf::{Item, Paper, Shelf};
-use audit_run::{Audited, Options, Order, Sources, audit_run, push_summary};
+use audit_run::{Audited, Options, Order, Search, Sources, audit_run, push_summary};
 use byte_streams::{FromRead, ToWrite};
 use ssh_wire::Bytes;
 use sshd_files::SshdFile;
@@ -14,11 +14,12 @@ pub const REVOKED: &[u8] =
     b": revoked: ssh-ed25519 SHA256:+DiY3wvvV6TuJJhbpZisF/zLDA0zPMSvHdkr4UvCOqU by its key\n";
 
 /// Revoked keys and unread lines are printed, as lines.
-pub const LOUD: Options = Options {
+pub const LOUD: Options<'static> = Options {
     quiet: false,
     all: false,
     json: false,
     colours: false,
+    label: None,
 };
 
 /// An audit, and what it prints: its findings, the counts of its last line, and its status.
@@ -33,8 +34,8 @@ pub struct Case<'a> {
 /// The options of an audit, the bytes of a reader of names, and the files that sshd reads.
 #[derive(Clone, Copy)]
 pub struct Asked<'a> {
-    pub options: Options,
-    pub every: bool,
+    pub options: Options<'a>,
+    pub search: Search,
     pub names: Option<&'a [u8]>,
     pub sought: &'a [SshdFile],
 }
@@ -43,7 +44,7 @@ pub struct Asked<'a> {
 pub fn plain() -> Asked<'static> {
     Asked {
         options: LOUD,
-        every: false,
+        search: Search::KeyFiles,
         names: None,
         sought: &[],
     }
@@ -68,7 +69,7 @@ pub fn check<'a>(
         texts: None,
         sought: asked.sought,
         shown: asked.options.shown(),
-        every_file: asked.every,
+        search: asked.search,
         names_from: "names",
         paths: case.paths,
     };

@@ -6,7 +6,9 @@ ghost use Rattle.audit_run.specs.Fact.{Fact};
 use crate::tests::audits::LOUD;
 use crate::tests::shelf::Paper;
 use audit_lines::Refusal;
-use audit_run::{Audited, FileKind, Found, Identity, Opened, Order, Sources, Tree, audit_run};
+use audit_run::{
+    Audited, FileKind, Found, Identity, Opened, Order, Search, Sources, Tree, audit_run,
+};
 use byte_streams::{FromRead, ToWrite};
 use ssh_wire::Bytes;
 use std::alloc::{AllocError, Global};
@@ -116,7 +118,7 @@ fn audited_in(alloc: Global, depth: usize) -> (u8, u64) {
         texts: None,
         sought: &[],
         shown: LOUD.shown(),
-        every_file: false,
+        search: Search::KeyFiles,
         names_from: "",
         paths: &["d"],
     };

@@ -3,7 +3,7 @@
 use crate::tests::audits::{Asked, Case, LOUD, REVOKED, check, plain};
 use crate::tests::shelf::{Item, Node};
 use audit_lines::Refusal;
-use audit_run::Options;
+use audit_run::{Options, Search};
 
 // The line of the key of the list, and that of another one.
 const LISTED: &[u8] =
@@ -11,6 +11,10 @@ const LISTED: &[u8] =
 
 const OTHER: &[u8] =
     b"ssh-ed25519 AAAAC3NzaC1lZDI1NTE5AAAAIBERERERERERERERERERERERERERERERERERERERERER\n";
+
+// A text with the key of the list in the middle of its second line.
+const NOTE: &[u8] = b"the old key is
+it: ssh-ed25519 AAAAC3NzaC1lZDI1NTE5AAAAIOMqqnkVzrm0SdG6UOoqKLsabgH5C9okWi0dh2l9GKJl (Bob)\n";
 
 const ITEMS: &[Item<'static>] = &[
     Item("x", Node::File(0, 1, LISTED)),
@@ -79,6 +83,18 @@ const ITEMS: &[Item<'static>] = &[
     Item("every/key", Node::File(0, 11, LISTED)),
     Item("every/pipe", Node::Special(LISTED)),
     Item("nothing", Node::Directory(b"")),
+    Item(
+        "scanned",
+        Node::Directory(b"note\0.git\0pipe\0blank\0null\0"),
+    ),
+    Item("scanned/note", Node::File(0, 40, NOTE)),
+    Item("scanned/.git", Node::Directory(b"key\0")),
+    Item("scanned/.git/key", Node::File(0, 41, LISTED)),
+    Item("scanned/pipe", Node::Special(LISTED)),
+    Item("scanned/blank", Node::File(0, 42, b"")),
+    Item("scanned/null", Node::Null),
+    Item("lists/authorized_keys.d", Node::Directory(b"bob\0")),
+    Item("lists/authorized_keys.d/bob", Node::File(0, 43, NOTE)),
     Item(
         "etc/authorized_keys.d",
         Node::Directory(b"bob\0below\0pipe\0"),
@@ -297,7 +313,7 @@ fn each_kind_of_entry(rt: HostRuntime) {
 #[test]
 fn every_regular_file(rt: HostRuntime) {
     let all = Asked {
-        every: true,
+        search: Search::EveryFile,
         ..plain()
     };
     let case = Case {
@@ -314,6 +330,54 @@ fn every_regular_file(rt: HostRuntime) {
         status: 0,
     };
     check(&rt, rt.alloc(), ITEMS, &all, &case);
+}
+
+#[test]
+fn keys_anywhere(rt: HostRuntime) {
+    let anywhere = Asked {
+        search: Search::Anywhere,
+        names: Some(b"scanned/note\0pipe\0"),
+        ..plain()
+    };
+    let case = Case {
+        paths: &["scanned", "lists/authorized_keys.d", "pipe", "-", "-"],
+        text: &[
+            b"scanned/note:2:5",
+            REVOKED,
+            b"pipe: unread: no regular file\nscanned/.git/key:1:1",
+            REVOKED,
+            b"scanned/note: same: it was audited before\nlists/authorized_keys.d/bob:2:5",
+            REVOKED,
+            b"pipe:1:1",
+            REVOKED,
+            b"-:1:1",
+            REVOKED,
+        ],
+        counts: b"9 files, 5 keys: 5 revoked in 5 files, 1 unread, 1 skipped by its name, \
+1 audited before",
+        status: 1,
+    };
+    check(&rt, rt.alloc(), ITEMS, &anywhere, &case);
+}
+
+#[test]
+fn a_label(rt: HostRuntime) {
+    let options = Options {
+        label: Some("web01: "),
+        ..LOUD
+    };
+    let labelled = Asked { options, ..plain() };
+    let case = Case {
+        paths: &["gone", "x", "x"],
+        text: &[
+            b"web01: gone: unread: No such file or directory\nweb01: x:1",
+            REVOKED,
+            b"web01: x: same: it was audited before\n",
+        ],
+        counts: b"2 files, 1 key: 1 revoked in 1 file, 1 unread, 1 audited before",
+        status: 1,
+    };
+    check(&rt, rt.alloc(), ITEMS, &labelled, &case);
 }
 
 #[test]

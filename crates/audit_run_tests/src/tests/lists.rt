@@ -2,7 +2,7 @@
 
 use crate::tests::audits::LOUD;
 use crate::tests::shelf::{Item, Node, Paper, Shelf};
-use audit_run::{Audited, Order, Sources, audit_run};
+use audit_run::{Audited, Order, Search, Sources, audit_run};
 use byte_streams::{FromRead, Lent, ToWrite};
 use krl_openssh::Incomparable;
 use ssh_wire::Bytes;
@@ -39,7 +39,7 @@ fn end_of(rt: &impl Abort, alloc: Global, list: Vec<u8>) -> End {
         texts: None,
         sought: &[],
         shown: LOUD.shown(),
-        every_file: false,
+        search: Search::KeyFiles,
         names_from: "",
         paths: &["a", "gone"],
     };

@@ -18,7 +18,7 @@ const ITEMS: &[Item<'static>] = &[
     Item("a.gz", Node::File(0, 5, b"\x1f\x8b\x08")),
 ];
 
-const JSON: Options = Options { json: true, ..LOUD };
+const JSON: Options<'static> = Options { json: true, ..LOUD };
 
 // The object of the login of `LOGIN`.
 const REVOKED: &[u8] = b"{\"file\":\"a\",\"line\":1,\"status\":\"revoked\",\"type\":\"ED25519\",\

@@ -77,7 +77,7 @@ pub fn check(
     list: Vec<u8>,
     items: &[Item<'_>],
     input: Giver<'_>,
-    options: Options,
+    options: Options<'_>,
     search: &Search<'_>,
 ) {
     let mut taker = Taker::whole(alloc);
@@ -123,7 +123,13 @@ fn ended_with(rt: &impl Abort, alloc: Global, ended: &LoginsEnd<'_>) -> (u8, Vec
 }
 
 // Checks a search of one log `a` with these parts by the list above.
-fn check_log(rt: &impl Abort, alloc: Global, log: &[&[u8]], options: Options, search: &Search<'_>) {
+fn check_log(
+    rt: &impl Abort,
+    alloc: Global,
+    log: &[&[u8]],
+    options: Options<'_>,
+    search: &Search<'_>,
+) {
     let log = joined(alloc, log).expect(rt, "there is memory");
     let items = [Item("a", Node::File(0, 1, &log))];
     let list = list_of_both(rt, alloc);

@@ -2,7 +2,7 @@
 
 use crate::tests::audits::{Asked, Case, LOUD, REVOKED, check};
 use crate::tests::shelf::{Item, Node, Paper, Shelf};
-use audit_run::{Audited, Order, Sources, audit_run};
+use audit_run::{Audited, Order, Search, Sources, audit_run};
 use byte_streams::{FromRead, Lent, ToWrite};
 use run_faults::{Cause, FileFault};
 use ssh_wire::Bytes;
@@ -23,7 +23,7 @@ const ITEMS: &[Item<'static>] = &[
 const fn asked(names: &[u8]) -> Asked<'_> {
     Asked {
         options: LOUD,
-        every: false,
+        search: Search::KeyFiles,
         names: Some(names),
         sought: &[],
     }
@@ -109,7 +109,7 @@ fn names_that_cannot_be_read_to_their_end(rt: HostRuntime) -> Result<(), Fail> {
         texts: None,
         sought: &[],
         shown: LOUD.shown(),
-        every_file: false,
+        search: Search::KeyFiles,
         names_from: "names",
         paths: &["b"],
     };

@@ -3,7 +3,7 @@
 ghost use Rattle.std.specs.Prelude.{◌≡◌, false};
 
 use crate::tests::shelf::{Item, Node, Paper, Shelf};
-use audit_run::{Audited, Order, Screen, Sources, Tree, audit_run, is_audited, is_sought};
+use audit_run::{Audited, Order, Screen, Search, Sources, Tree, audit_run, is_audited, is_sought};
 use audit_text::Format;
 use byte_streams::{Lent, Sink, Source, ToWrite};
 use krl_audit::Shown;
@@ -14,7 +14,8 @@ use std::process::Abort;
 use std::test::Fail;
 use test_fixtures::{GITHUB_LINE, Taker, joined};
 
-const NOTHING: Shown = Shown {
+const NOTHING: Shown<'static> = Shown {
+    label: None,
     revoked: false,
     unread: false,
     fine: false,
@@ -38,7 +39,7 @@ fn is_clean<T: Tree, W: Screen>(
         texts: None,
         sought: &[],
         shown: NOTHING,
-        every_file: false,
+        search: Search::KeyFiles,
         names_from: "",
         paths,
     };

@@ -15,7 +15,8 @@ use std::process::Abort;
 use test_fixtures::Taker;
 
 /// Revoked keys and unread lines are printed.
-pub const FINDINGS: Shown = Shown {
+pub const FINDINGS: Shown<'static> = Shown {
+    label: None,
     revoked: true,
     unread: true,
     fine: false,
@@ -23,7 +24,8 @@ pub const FINDINGS: Shown = Shown {
 };
 
 /// All keys are printed.
-pub const ALL: Shown = Shown {
+pub const ALL: Shown<'static> = Shown {
+    label: None,
     revoked: true,
     unread: true,
     fine: true,
@@ -31,7 +33,8 @@ pub const ALL: Shown = Shown {
 };
 
 /// All keys are printed, as objects.
-pub const OBJECTS: Shown = Shown {
+pub const OBJECTS: Shown<'static> = Shown {
+    label: None,
     revoked: true,
     unread: true,
     fine: true,
@@ -39,7 +42,8 @@ pub const OBJECTS: Shown = Shown {
 };
 
 /// Nothing is printed.
-pub const NOTHING: Shown = Shown {
+pub const NOTHING: Shown<'static> = Shown {
+    label: None,
     revoked: false,
     unread: false,
     fine: false,
@@ -104,7 +108,7 @@ pub fn said_of(
     rt: &impl Abort,
     alloc: Global,
     list: &Listed,
-    shown: Shown,
+    shown: Shown<'static>,
     files: &[(&str, Result<&[u8], Refusal>)],
 ) -> Said {
     let judge = Judge {
@@ -124,7 +128,8 @@ pub fn said_by(
     files: &[(&str, Result<&[u8], Refusal>)],
 ) -> Said {
     let mut taker = Taker::whole(alloc);
-    let (counts, status) = audit_into(rt, alloc, judge, files, &mut ToWrite::new(&mut taker));
+    let mut out = ToWrite::new(&mut taker);
+    let (counts, status) = audit_into(rt, alloc, judge, false, files, &mut out);
     Said {
         text: taker.taken,
         counts,
@@ -132,11 +137,36 @@ pub fn said_by(
     }
 }
 
-// Audits files, and returns the counts and the status.
+/// The text that an audit of keys anywhere in a file prints, and its counts.
+pub fn scanned(
+    rt: &impl Abort,
+    alloc: Global,
+    list: &Listed,
+    shown: Shown<'static>,
+    text: &[u8],
+) -> Said {
+    let judge = Judge {
+        list,
+        canaries: None,
+        texts: None,
+        shown,
+    };
+    let mut taker = Taker::whole(alloc);
+    let mut out = ToWrite::new(&mut taker);
+    let (counts, status) = audit_into(rt, alloc, judge, true, &[("f", Ok(text))], &mut out);
+    Said {
+        text: taker.taken,
+        counts,
+        status,
+    }
+}
+
+// Audits files, with keys anywhere in them or not, and returns the counts and the status.
 fn audit_into<W: Sink>(
     rt: &impl Abort,
     alloc: Global,
     judge: Judge<'_>,
+    anywhere: bool,
     files: &[(&str, Result<&[u8], Refusal>)],
     out: &mut W,
 ) -> (Counts, u8) {
@@ -154,7 +184,7 @@ fn audit_into<W: Sink>(
     for (name, content) in files {
         let file = FileName {
             shown: *name,
-            read_as: *name,
+            read_as: if anywhere { None } else { Some(*name) },
         };
         auditor
             .audit_file(file, *content)

@@ -24,6 +24,7 @@ fn audit_one<W: Sink>(
     text: &[u8],
 ) -> Result<Counts, RunFault<'static>> {
     let shown = Shown {
+        label: None,
         revoked: true,
         unread: true,
         fine: false,
@@ -42,7 +43,7 @@ fn audit_one<W: Sink>(
     };
     let name = FileName {
         shown: "authorized_keys",
-        read_as: "authorized_keys",
+        read_as: Some("authorized_keys"),
     };
     auditor.audit_file(name, Ok(text))?;
     Ok(auditor.counts)
@@ -82,11 +83,10 @@ fn a_line_has_a_key(rt: HostRuntime) {
 
 /// Makes the line about a file that the user may not read.
 fn denied_line(alloc: Global, name: &str, line: &mut Vec<u8>) -> Result<(), AllocError> {
-    let location = Location { name, number: 0 };
     say_unread(
         alloc,
         Format::Text,
-        location,
+        Location::file(None, name),
         Why::File(Refusal::Denied),
         line,
     )

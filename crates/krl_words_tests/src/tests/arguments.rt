@@ -158,6 +158,32 @@ fn audits_of_sshd(rt: HostRuntime) -> Result<(), Fail> {
 }
 
 #[test]
+fn scans_and_labels(rt: HostRuntime) -> Result<(), Fail> {
+    let words = ["krl", "audit", "-fk", "--scan", "--label", "web01: ", "-"];
+    let audit = audit_by(rt.alloc(), &words)?;
+    assert!(rt; audit.scan && !audit.every_file && audit.label == Some("web01: "));
+    let words = ["krl", "audit", "-fk", "--all", "--label=-x", "--scan", "a"];
+    let audit = audit_by(rt.alloc(), &words)?;
+    assert!(rt; audit.scan && audit.every_file && audit.label == Some("-x"));
+    let words = ["krl", "audit", "-fk", "--label", "", "a"];
+    let audit = audit_by(rt.alloc(), &words)?;
+    assert!(rt; audit.label == Some("") && audit.files.as_slice() == ["a"].as_slice());
+    let words = ["krl", "audit", "-fk", "a"];
+    let audit = audit_by(rt.alloc(), &words)?;
+    assert!(rt; !audit.scan && audit.label.is_none());
+    let refused: [&[&str]; 4] = [
+        &["krl", "audit", "-fk", "--scan", "--scan", "a"],
+        &["krl", "audit", "-fk", "--label", "a", "--label=b", "a"],
+        &["krl", "audit", "-fk", "a", "--label"],
+        &["krl", "logins", "-fk", "a", "--label", "b"],
+    ];
+    for (i, words) in refused.iter().enumerate() {
+        assert!(rt; status_by(rt.alloc(), words)? == 2, "in row {i}");
+    }
+    Ok(())
+}
+
+#[test]
 fn only_names_are_excluded(rt: HostRuntime) -> Result<(), Fail> {
     for excluded in ["", ".", "..", "/", "a/b", "a/"] {
         let words = [

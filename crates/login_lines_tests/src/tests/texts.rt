@@ -84,10 +84,7 @@ fn say<'s>(
         reasons,
         explanation,
     };
-    let location = Location {
-        name: "auth.log",
-        number: 3,
-    };
+    let location = Location::line("auth.log", 3);
     say_login(alloc, form, location, &verdict, said).expect(rt, "there is memory");
 }
 

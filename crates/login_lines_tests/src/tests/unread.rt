@@ -57,10 +57,7 @@ static REASONS: [(LoginWhy, u64, &str, &str); 8] = [
 // the whole log.
 fn said_for(rt: &impl Abort, alloc: Global, form: Format, number: u64, why: LoginWhy) -> Vec<u8> {
     let mut said = Vec::from_slice(alloc, b"a line before").expect(rt, "there is memory");
-    let location = Location {
-        name: "a\x07.log",
-        number,
-    };
+    let location = Location::line("a\x07.log", number);
     say_unread_login(form, location, why, &mut said).expect(rt, "there is memory");
     said
 }

@@ -16,12 +16,12 @@ use test_fixtures::{CERT_LINE, CONTAINER, GITHUB, GITHUB_LINE, joined};
 
 const FILE: FileName<'static> = FileName {
     shown: "f",
-    read_as: "f",
+    read_as: Some("f"),
 };
 
 const PRIVATE: FileName<'static> = FileName {
     shown: "id",
-    read_as: "id",
+    read_as: Some("id"),
 };
 
 // The text that is printed for the lines of `audited`.
@@ -80,6 +80,7 @@ fn said_as_objects<W: Sink>(
         line: Vec::new(alloc),
     };
     let shown = Shown {
+        label: None,
         revoked: true,
         unread: true,
         fine: false,
@@ -149,6 +150,7 @@ fn audited<W: Sink>(
         line: Vec::new(alloc),
     };
     let shown = Shown {
+        label: None,
         revoked: true,
         unread: true,
         fine: false,

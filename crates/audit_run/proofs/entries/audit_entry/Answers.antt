@@ -4,7 +4,7 @@ use Rattle.std.specs.Prelude.{is_some}
 use Rattle.std.proofs.lemmas.Result.{err_from_is_err_and}
 use Rattle.audit_run.specs.Paths.{path_in}
 use Rattle.audit_lines.specs.declared.why.Refusal.TheVariants.{Open}
-use Rattle.krl_audit.specs.Audit.{own_name}
+use Rattle.audit_run.specs.Search.{name_in}
 use Rattle.audit_run.specs.Entries.{IsEntry, VisitsTarget, below, excluded, no_text, not_selected}
 use Rattle.audit_run.specs.Visits.{Skipped, refused}
 use Rattle.audit_run.specs.declared.files.Skip.TheVariants as skips
@@ -44,14 +44,14 @@ pub returns-then-is_never-clause-entry : goal.returns-then-is_never-clause-entry
 returns-then-is_never-clause-entry g c =
     let keeps = rw c.if-is_excluded.false at c.is_excluded.ensures in
     let cases = c.in-Ok.ensures.cases in
-    let never = rw c.selection_of-selection.ensures at (sym c.is_never.ensures ∙ c.if-is_never.true) in
+    let never = rw (c.selection_of-selection.ensures, c.selects_every.ensures) at (sym c.is_never.ensures ∙ c.if-is_never.true) in
     record { visits = []; is = not_selected keeps cases.1 never refl refl; meets = nothing_met _ }
 
 pub returns-then-is_directory-clause-entry : goal.returns-then-is_directory-clause-entry
 returns-then-is_directory-clause-entry g c =
     let keeps = rw c.if-is_excluded.false at c.is_excluded.ensures in
     let cases = c.in-Ok.ensures.cases in
-    let chosen = rw c.selection_of-selection.ensures at (sym c.is_never.ensures ∙ c.if-is_never.false) in
+    let chosen = rw (c.selection_of-selection.ensures, c.selects_every.ensures) at (sym c.is_never.ensures ∙ c.if-is_never.false) in
     let looked = c.as_str-2.ensures.value ∙ c.in_ok-path.ensures ∙ ap (path_in c.args.place.path.now) cases.0 in
     record {
       visits = [];
@@ -63,7 +63,7 @@ returns-then-is_directory-clause-entry g c =
 pub returns-in_err-audit_target-clause-entry : goal.returns-in_err-audit_target-clause-entry
 returns-in_err-audit_target-clause-entry g c =
     let p = err_from_is_err_and c.from_residual-in_err-audit_target.result c.from_residual-in_err-audit_target.ensures.1 in
-    let was = c.in_err-audit_target.ensures in
+    let was = rw c.name_in.ensures at c.in_err-audit_target.ensures in
     let keeps = rw c.if-is_excluded.false at c.is_excluded.ensures in
     let cases = c.in-Ok.ensures.cases in
     let looked = c.as_str-2.ensures.value ∙ c.in_ok-path.ensures ∙ ap (path_in c.args.place.path.now) cases.0 in
@@ -71,23 +71,24 @@ returns-in_err-audit_target-clause-entry g c =
     let wants = rw (c.selection_of.ensures, c.reads_every.ensures, c.as_bytes.ensures.value) at c.is_always-2.ensures in
     let never = sym c.is_never.ensures ∙ c.if-is_never.false in
     let is = sym c.is_directory.ensures ∙ c.if-is_directory.false in
+    let chosen = rw c.selects_every.ensures at c.selection_of-selection.ensures in
     rw (p.1, p.2) (record {
       visits = was.visits;
       is = begun_none c.in_err-audit_target.field-0.0
-          (λ visits. VisitsTarget (g.T.Tree.states c.args.tree.now) (own_name c.as_str-found_at.result.now) c.is_always.result c.is_always-2.result
+          (λ visits. VisitsTarget (g.T.Tree.states c.args.tree.now) (name_in c.args.place.search c.as_str-found_at.result.now) c.is_always.result c.is_always-2.result
           c.target_of-target.result visits)
-          (λ below visits. IsEntry (g.T.Tree.states c.args.tree.now) c.args.place.every c.args.place.path.now c.args.name.now
+          (λ below visits. IsEntry (g.T.Tree.states c.args.tree.now) c.args.place.search c.args.place.path.now c.args.name.now
           (is_some below) visits)
           was.visits
           (λ met. entry_here (g.T.Tree.states c.args.tree.now) _ _ _ _ _ _ _ _ _ _ was.visits keeps cases.1 looked passed
-          c.selection_of-selection.ensures c.is_always.ensures wants never c.look-looked.ensures is c.target_of-target.ensures met)
+          chosen c.is_always.ensures wants never c.look-looked.ensures is c.target_of-target.ensures met)
           was.is;
       meets = was.meets;
     })
 
 pub returns-clause-entry : goal.returns-clause-entry
 returns-clause-entry g c =
-    let was = c.in_ok-audit_target.ensures in
+    let was = rw c.name_in.ensures at c.in_ok-audit_target.ensures in
     let keeps = rw c.if-is_excluded.false at c.is_excluded.ensures in
     let cases = c.in-Ok.ensures.cases in
     let looked = c.as_str-2.ensures.value ∙ c.in_ok-path.ensures ∙ ap (path_in c.args.place.path.now) cases.0 in
@@ -95,9 +96,10 @@ returns-clause-entry g c =
     let wants = rw (c.selection_of.ensures, c.reads_every.ensures, c.as_bytes.ensures.value) at c.is_always-2.ensures in
     let never = sym c.is_never.ensures ∙ c.if-is_never.false in
     let is = sym c.is_directory.ensures ∙ c.if-is_directory.false in
+    let chosen = rw c.selects_every.ensures at c.selection_of-selection.ensures in
     record {
       visits = was.visits;
       is = entry_here (g.T.Tree.states c.args.tree.now) _ _ _ _ _ _ _ _ _ _ was.visits keeps cases.1 looked passed
-          c.selection_of-selection.ensures c.is_always.ensures wants never c.look-looked.ensures is c.target_of-target.ensures was.is;
+          chosen c.is_always.ensures wants never c.look-looked.ensures is c.target_of-target.ensures was.is;
       meets = was.meets;
     }

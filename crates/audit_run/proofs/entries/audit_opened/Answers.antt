@@ -10,7 +10,7 @@ pub returns-then-has : goal.returns-then-has
 returns-then-has g c = λ bytes consumes.
     let key = c.key_of-key.result in
     let told = is_told c.round.inside.files key in
-    let key_is : key ≡ key_of c.args.name.read_as.now c.args.reading.identity = rw c.as_bytes.ensures.value at c.key_of-key.ensures in
+    let key_is : key ≡ key_of (name_by c.args.name).read_as c.args.reading.identity = c.key_of-key.ensures in
     record {
       visits = Same told key c.args.name.shown.now ∷ [];
       is = begun c.say_same.result (tt {0}) (IsOpened (g.T.Tree.states c.args.tree.now) (name_by c.args.name) c.args.reading.identity bytes) _

@@ -1,7 +1,7 @@
 -- Standard input was read, or an allocation failed before anything was met.
 use Rattle.std.proofs.Common.{[], ◌∷◌, None, refl}
 use Rattle.std.proofs.lemmas.Result.{err_from_is_err_and}
-use Rattle.krl_audit.specs.Audit.{content_of, own_name}
+use Rattle.krl_audit.specs.Audit.{content_of, name_by}
 use Rattle.audit_run.specs.Visits.{Audited}
 use Rattle.audit_run.proofs.Auditing.{goes, goes_nothing}
 use Rattle.audit_run.proofs.Contents.{content_read}
@@ -14,8 +14,8 @@ returns-in_err-read g c =
 
 pub returns : goal.returns
 returns g c =
-    let met = rw c.take_text-text.ensures.kept at c.audit-done.ensures in
-    rw (c.round.view_is, c.in-Some.is) (goes c.audit-done.result (Audited None (own_name c.args.path.now) (content_of c.content_of.result) ∷ []) _ _ _
+    let met = rw c.take_text-text.ensures.kept at c.audit_as-done.ensures in
+    rw (c.round.view_is, c.in-Some.is) (goes c.audit_as-done.result (Audited None (name_by c.args.name) (content_of c.content_of.result) ∷ []) _ _ _
     (record {
       content = content_of c.content_of.result;
       is = content_read _ _ c.in_ok-read.read c.read_input.new.text.items _ _ c.content_of.ensures c.as_slice.ensures.value

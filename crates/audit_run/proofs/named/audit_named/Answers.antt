@@ -16,4 +16,5 @@ returns-clause-named g c =
     let other : is_input c.args.path.now ≡ false = search rules in
     let is = sym c.is_directory.ensures ∙ c.if-is_directory.false in
     goes_went c.audit_waiting.result _ _ _ _ (before_path refl refl)
-    (λ whole v waits. waiting c.look-found.result other c.look-found.ensures is waits) c.audit_waiting.ensures
+    (λ whole v waits. waiting c.look-found.result other c.look-found.ensures is waits)
+    (rw c.name_in-2.ensures at c.audit_waiting.ensures)

@@ -24,7 +24,7 @@ pub returns-in_default : goal.returns-in_default
 returns-in_default g c = λ full held.
     let fits = ltb-false 4096 (length c.args.name.now) (sym c.is_too_long.ensures ∙ c.if-is_too_long.false) in
     let same = whole_name 4096 c.args.name.now full held fits in
-    subst (λ (n : List ℕ). Went (λ whole. IsOnList (g.T.Tree.states c.args.tree.now) c.args.every whole n) c.refuse_name-in_default.result
+    subst (λ (n : List ℕ). Went (λ whole. IsOnList (g.T.Tree.states c.args.tree.now) c.args.search whole n) c.refuse_name-in_default.result
     c.args.round.now c.refuse_name-in_default.new.round) same
     (goes_went c.refuse_name-in_default.result _ _ _ _ (before_name refl refl)
     (λ whole v is. no_text fits c.in_default.ensures.cases.0 is) c.refuse_name-in_default.ensures)
@@ -34,5 +34,5 @@ returns g c = λ full held.
     let fits = ltb-false 4096 (length c.args.name.now) (sym c.is_too_long.ensures ∙ c.if-is_too_long.false) in
     let same = whole_name 4096 c.args.name.now full held fits in
     let text = c.in-Ok.ensures.cases.0 in
-    subst (λ (n : List ℕ). Went (λ whole. IsOnList (g.T.Tree.states c.args.tree.now) c.args.every whole n) c.audit_text.result
+    subst (λ (n : List ℕ). Went (λ whole. IsOnList (g.T.Tree.states c.args.tree.now) c.args.search whole n) c.audit_text.result
     c.args.round.now c.audit_text.new.round) (text ∙ same) (c.audit_text.ensures (rw text fits))

@@ -10,7 +10,7 @@ abbrev pub invariant-loop-path : goal.invariant-loop-path
 invariant-loop-path g l = record {
   audited : (visits : List Visit)
       × (Each (λ (whole : Bool) (named : NamedPath) (visits : List Visit).
-      IsNamed (g.T.Tree.states l.tree) (SomeFailed g.I.Source.has_failed) l.every whole named.path named.input visits)
+      IsNamed (g.T.Tree.states l.tree) (SomeFailed g.I.Source.has_failed) l.search whole named.path named.input visits)
       true (with_input (left_in g.I.Source.left l.initial.input) (take l.path-index l.paths)) visits
       × AuditsBy visits None l.initial.round l.round);
   input : left_in g.I.Source.left l.input ≡ input_past (left_in g.I.Source.left l.initial.input) (take l.path-index l.paths);

@@ -14,4 +14,4 @@ pub returns : goal.returns
 returns g c = λ fits.
     let is = sym c.is_directory.ensures ∙ c.if-is_directory.false in
     goes_went c.audit_target.result _ _ _ _ (before_name refl refl)
-    (λ whole v met. here c.look-found.result fits c.utf8.path c.look-found.ensures is met) c.audit_target.ensures
+    (λ whole v met. here c.look-found.result fits c.utf8.path c.look-found.ensures is met) (rw c.name_in.ensures at c.audit_target.ensures)

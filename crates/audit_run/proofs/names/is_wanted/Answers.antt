@@ -8,7 +8,7 @@ pub returns : goal.returns
 returns g c =
     let cases = c.in-Ok.ensures.cases in
     let path = c.as_str.ensures.value ∙ c.in_ok-path.ensures ∙ ap (path_in c.args.place.path.now) cases.0 in
-    let never = rw c.selection_of.ensures at (sym c.is_never.ensures ∙ c.if-not-is_never.false) in
+    let never = rw (c.selection_of.ensures, c.selects_every.ensures) at (sym c.is_never.ensures ∙ c.if-not-is_never.false) in
     let keeps = rw c.if-is_excluded.false at c.is_excluded.ensures in
     not_selected (sym c.is_dots.ensures ∙ c.if-is_dots.false) keeps never cases.1
     (rw (path, c.is_sought.ensures) at c.may_be_directory.ensures)

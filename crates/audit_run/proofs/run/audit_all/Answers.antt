@@ -9,7 +9,7 @@ returns-in-Ok-true-clause-all g c = λ answers before judges shown said.
     rw c.err.ensures.value
     (ended_all _ _ _ _ answers before went.visits c.say_last.result c.args.round.now c.audit_met.new.round c.say_last.new.round
     (rw c.in-Ok-true.field-0-test at went.is) (went.audits.audits answers judges)
-    c.say_last.ensures.carries c.say_last.ensures.tally shown said)
+    c.say_last.ensures.carries went.audits.judge c.say_last.ensures.tally shown said)
 
 pub returns-in-Ok-false-clause-all : goal.returns-in-Ok-false-clause-all
 returns-in-Ok-false-clause-all g c = λ answers before judges shown said.

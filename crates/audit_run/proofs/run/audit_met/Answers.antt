@@ -1,5 +1,5 @@
 -- The files that sshd reads were audited, and then what is given.
-use Rattle.std.proofs.Common.{◌++◌, Some, refl}
+use Rattle.std.proofs.Common.{◌++◌, refl}
 use Rattle.std.specs.Result.{result_err}
 use Rattle.std.proofs.lemmas.Result.{err_from_is_err_and}
 use Rattle.audit_run.specs.Run.{in_sought}

@@ -24,12 +24,12 @@ returns-in_err-audit-in-Err g c =
 
 pub returns-in-Ok : goal.returns-in-Ok
 returns-in-Ok g c =
-    let opens = rw (c.in-Ok.is, c.as_str-2.ensures.value, c.every_in-every.ensures, c.as_str.ensures.value)
+    let opens = rw (c.in-Ok.is, c.as_str-2.ensures.value, c.search_in-search.ensures, c.as_str.ensures.value)
     at c.in_ok-names.ensures.names in
     record {
       visits = Skipped skips.ByName c.in-Ok.listing.skipped ∷ [];
       is = entered c.in-Ok.listing.names.items c.in-Ok.listing.skipped opens refl
-          (rw (c.reverse.ensures.items, c.every_in-every.ensures, c.as_str.ensures.value) refl);
+          (rw (c.reverse.ensures.items, c.search_in-search.ensures, c.as_str.ensures.value) refl);
       meets = rw c.in_ok-names.ensures.kept at c.skip.ensures;
     }
 

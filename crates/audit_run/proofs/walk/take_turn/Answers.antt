@@ -14,7 +14,7 @@ returns-in_default g c =
     let rest = rw c.in_default.ensures.cases.0 at c.in_default.ensures.rest in
     record {
       visits = [];
-      is = leave_turn (g.T.Tree.states c.args.tree.now) c.args.every (levels_of c.args.entered.now.items) (level_of c.args.last)
+      is = leave_turn (g.T.Tree.states c.args.tree.now) c.args.search (levels_of c.args.entered.now.items) (level_of c.args.last)
           (c.in_default.ensures.items ∙ ap (λ (names : List (Vec ℕ)). names ++ []) rest);
       meets = nothing_met _;
     }
@@ -25,7 +25,7 @@ returns-in_err-below g c =
     let was = rw (c.as_slice.ensures.value, c.as_str.ensures.value) at c.in_err-below.ensures.entry in
     rw (p.1, p.2) (record {
       visits = was.visits;
-      is = entry_stopped (g.T.Tree.states c.args.tree.now) c.args.every (levels_of c.args.entered.now.items) []
+      is = entry_stopped (g.T.Tree.states c.args.tree.now) c.args.search (levels_of c.args.entered.now.items) []
           (level_of c.args.last) c.pop.new.self.items c.in-Some.name c.in_err-below.field-0.0 was.visits
           c.in-Some.ensures.items was.is;
       meets = was.meets;
@@ -39,7 +39,7 @@ returns-in_err-push_entered g c =
       visits = was.visits;
       is = inl (
         tt,
-        entry_turn (g.T.Tree.states c.args.tree.now) c.args.every (levels_of c.args.entered.now.items) []
+        entry_turn (g.T.Tree.states c.args.tree.now) c.args.search (levels_of c.args.entered.now.items) []
             (level_of c.args.last) c.pop.new.self.items c.in-Some.name (is_some c.in_ok-below.below) was.visits
             c.in-Some.ensures.items was.is,
       );
@@ -51,7 +51,7 @@ returns-in_default-below g c =
     let was = rw (c.as_slice.ensures.value, c.as_str.ensures.value, c.in_default-below.is) at c.in_ok-below.ensures.entry in
     record {
       visits = was.visits;
-      is = here_turn (g.T.Tree.states c.args.tree.now) c.args.every (levels_of c.args.entered.now.items) _
+      is = here_turn (g.T.Tree.states c.args.tree.now) c.args.search (levels_of c.args.entered.now.items) _
           (level_of c.args.last) c.pop.new.self.items c.in-Some.name was.visits c.in-Some.ensures.items was.is
           c.in_ok-push_entered.ensures;
       meets = was.meets;
@@ -65,7 +65,7 @@ returns-in_err-next g c =
     let more = c.in_err-next.ensures in
     rw (p.1, p.2) (record {
       visits = was.visits ++ more.visits;
-      is = down_stopped (g.T.Tree.states c.args.tree.now) c.args.every (levels_of c.args.entered.now.items) []
+      is = down_stopped (g.T.Tree.states c.args.tree.now) c.args.search (levels_of c.args.entered.now.items) []
           (level_of c.args.last) c.pop.new.self.items c.in-Some.name was.visits more.visits _ c.in_err-next.field-0.0 level_in
           c.in-Some.ensures.items was.is path more.is;
       meets = meets_then was.visits more.visits (Some c.in_err-next.field-0.0) _ _ _ was.meets more.meets;
@@ -83,7 +83,7 @@ returns-in_err-push_below g c =
         tt,
         inl (
           _,
-          down_turn (g.T.Tree.states c.args.tree.now) c.args.every (levels_of c.args.entered.now.items)
+          down_turn (g.T.Tree.states c.args.tree.now) c.args.search (levels_of c.args.entered.now.items)
               (level_of c.args.last) c.pop.new.self.items c.in-Some.name was.visits more.visits _ (level_in c.in_ok-next.next)
               c.in-Some.ensures.items was.is path more.is,
         ),
@@ -98,7 +98,7 @@ returns g c =
     let more = c.in_ok-next.ensures in
     record {
       visits = was.visits ++ more.visits;
-      is = below_turn (g.T.Tree.states c.args.tree.now) c.args.every (levels_of c.args.entered.now.items) _ _
+      is = below_turn (g.T.Tree.states c.args.tree.now) c.args.search (levels_of c.args.entered.now.items) _ _
           (level_of c.args.last) c.pop.new.self.items c.in-Some.name was.visits more.visits _ (level_in c.in_ok-next.next)
           c.in-Some.ensures.items was.is path more.is c.in_ok-push_entered.ensures c.in_ok-push_below.ensures;
       meets = meets_then was.visits more.visits None _ _ _ was.meets more.meets;

@@ -5,5 +5,5 @@ use Rattle.login_run.proofs.finding.say_line.Goals as goal
 
 pub returns : goal.returns
 returns g c = λ outcome is.
-    let said = c.say.ensures (place c.args.location.name.now c.args.location.number (finding_of outcome)) refl (λ answers judges. c.judge_line-made.ensures outcome is answers judges) in
+    let said = c.say.ensures (place c.args.at.name.now c.args.at.number (finding_of outcome)) refl (λ answers judges. c.judge_line-made.ensures outcome is answers judges) in
     record { told = said.told; judge = said.judge }

@@ -5,5 +5,5 @@ use Rattle.login_run.proofs.finding.say_not_read.Goals as goal
 
 pub returns : goal.returns
 returns g c =
-    let said = c.say.ensures (place c.args.location.name.now c.args.location.number (Lacks c.args.why)) refl (λ answers judges. c.judge_unread-made.ensures answers) in
+    let said = c.say.ensures (place c.args.at.name.now c.args.at.number (Lacks c.args.why)) refl (λ answers judges. c.judge_unread-made.ensures answers) in
     record { told = said.told; judge = said.judge }
